@@ -1,13 +1,25 @@
 // The first difference between what a run left and what it must leave.
 
-use crate::running::Left;
+use crate::running::{Left, run_over};
 use crate::seen::{owners, records, side, status_line};
 use anyhow::Result;
-use case_file::{Expected, differing, differing_numbers, differing_where_told};
+use case_file::{Expected, Given, differing, differing_numbers, differing_where_told};
 use std::alloc::Global;
+use std::hash::RandomState;
+
+// Makes one run, and says how it differs.
+pub fn tried_once(
+    alloc: Global,
+    keys: RandomState,
+    given: &Given,
+    expected: &Expected,
+) -> Result<Option<String>> {
+    let left = run_over(alloc, keys, given)?;
+    difference(alloc, expected, &left)
+}
 
 // What differs; None where nothing does.
-pub fn difference(alloc: Global, expected: &Expected, left: &Left) -> Result<Option<String>> {
+fn difference(alloc: Global, expected: &Expected, left: &Left) -> Result<Option<String>> {
     let status = status_line(alloc, left)?;
     let of_status = differing(
         alloc,

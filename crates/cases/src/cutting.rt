@@ -1,7 +1,7 @@
 // A run cut in two after each of its lines: the first part is saved, and the second goes on from the snapshot.
 
-use crate::comparing::difference;
-use crate::running::{Left, run_over};
+use crate::comparing::tried_once;
+use crate::running::{Streams, run_over, without_world};
 use crate::trial::{Trial, differs_at};
 use anyhow::Result;
 use case_file::{Case, Expected, Given, differing, split_lines};
@@ -9,35 +9,33 @@ use session::Status;
 use std::alloc::Global;
 use std::hash::RandomState;
 
-// The files whose cases are cut.
-const FILES: [&str; 8] = [
-    "states: ",
-    "late: ",
-    "horizon: ",
-    "mapping: ",
-    "questions: ",
-    "matches: ",
-    "patches: ",
-    "split: ",
-];
-
-// The words for sections, which only the second part has.
-const SECTIONS: [&str; 3] = ["--export", "--state", "--side"];
-
 // The most lines of a case that is cut: each of its runs costs as much as the whole.
 const MOST_LINES: usize = 64;
 
-// The commands whose runs are cut.
-const COMMANDS: [&str; 3] = ["replay", "patches", "split"];
+// Whether the cases of a file are cut.
+fn is_file_cut(file: &str) -> bool {
+    matches!(
+        file,
+        "states" | "late" | "horizon" | "mapping" | "questions" | "matches" | "patches" | "split"
+    )
+}
+
+// Whether a word asks for a section, which only the second part has.
+fn is_section(word: &str) -> bool {
+    matches!(word, "--export" | "--state" | "--side")
+}
+
+// Whether the runs of a command are cut.
+fn is_command_cut(command: &str) -> bool {
+    matches!(command, "replay" | "patches" | "split")
+}
 
 // Whether a case is cut: a run of these commands that ends with Ok and isn't saved, none of whose reads and writes fails.
 pub fn is_cut(case: &Case, given: &Given, expected: &Expected) -> bool {
-    let named = FILES
-        .iter()
-        .any(|file| case.name.as_str().starts_with(file));
+    let (file, _) = case.name.as_str().split_once(": ").unwrap_or(("", ""));
     let command = given.words.first().map(|word| word.as_str()).unwrap_or("");
-    named
-        && COMMANDS.contains(&command)
+    is_file_cut(file)
+        && is_command_cut(command)
         && expected.status.as_str() == "0"
         && expected.saved.is_none()
         && given.resumed.is_empty()
@@ -49,8 +47,8 @@ pub fn is_cut(case: &Case, given: &Given, expected: &Expected) -> bool {
 pub fn tried_in_two(
     alloc: Global,
     keys: RandomState,
-    given: Given,
-    expected: Expected,
+    given: &Given,
+    expected: &Expected,
 ) -> Result<Trial> {
     let mut runs = 1u64;
     let count = split_lines(alloc, given.input.as_slice())?.len();
@@ -61,7 +59,7 @@ pub fn tried_in_two(
     };
     for cut in 0..cuts {
         runs = runs.saturating_add(2);
-        let found = difference_of_parts(alloc, keys, &given, &expected, cut)?;
+        let found = difference_of_parts(alloc, keys, given, expected, cut)?;
         if let Some(difference) = found {
             return differs_at(alloc, "the cut", cut as u64, runs, difference.as_str());
         }
@@ -80,64 +78,96 @@ fn difference_of_parts(
     expected: &Expected,
     cut: usize,
 ) -> Result<Option<String>> {
-    let first = first_part(alloc, given, cut)?;
-    let left = run_over(alloc, keys, &first)?;
-    if left.status != Status::Ok {
+    let first = first_run(alloc, keys, given, cut)?;
+    if first.status != Status::Ok {
         return differing(alloc, "status of the first part", b"0", b"another");
     }
-    let second = second_part(alloc, given, cut, &left)?;
-    match rest(alloc, expected, &left)? {
+    let second = second_part(alloc, given, cut, &first)?;
+    match rest(alloc, expected, &first)? {
         None => differing(
             alloc,
             "output of the first part",
             expected.out.as_slice(),
-            left.out.bytes(),
+            first.out.bytes(),
         ),
-        Some(expected) => {
-            let left = run_over(alloc, keys, &second)?;
-            difference(alloc, &expected, &left)
-        }
+        Some(rest) => tried_once(alloc, keys, &second, &rest),
     }
+}
+
+// Makes the run over the first lines.
+fn first_run(alloc: Global, keys: RandomState, given: &Given, cut: usize) -> Result<Streams> {
+    let part = first_part(alloc, given, cut)?;
+    let left = run_over(alloc, keys, &part)?;
+    Ok(without_world(left))
 }
 
 // The first lines, which are saved. No section is printed.
 fn first_part(alloc: Global, given: &Given, cut: usize) -> Result<Given> {
+    let words = saving_words(alloc, given.words.as_slice())?;
+    let input = first_lines(alloc, given.input.as_slice(), cut)?;
     let mut part = given.copy(alloc)?;
-    part.words = Vec::new(alloc);
-    for word in &given.words {
-        if !SECTIONS.contains(&word.as_str()) {
-            push_word(alloc, &mut part.words, word.as_str())?;
-        }
-    }
-    push_word(alloc, &mut part.words, "--save=day")?;
-    part.input = Vec::new(alloc);
-    for line in split_lines(alloc, given.input.as_slice())?.iter().take(cut) {
-        part.input.extend_from_slice(line)?;
-    }
+    part.words = words;
+    part.input = input;
     Ok(part)
 }
 
-// The other lines, which go on from what was saved. The calls that fail are counted on.
-fn second_part(alloc: Global, given: &Given, cut: usize, left: &Left) -> Result<Given> {
-    let mut part = given.copy(alloc)?;
-    push_word(alloc, &mut part.words, "--resume=day")?;
-    part.resumed = Vec::from_slice(alloc, left.saved.bytes())?;
-    part.input = Vec::new(alloc);
-    for line in split_lines(alloc, given.input.as_slice())?.iter().skip(cut) {
-        part.input.extend_from_slice(line)?;
-    }
-    part.failing_fetches = Vec::new(alloc);
-    for call in &given.failing_fetches {
-        if *call > left.fetches {
-            part.failing_fetches.push(*call - left.fetches)?;
+// The words without those for sections, and the one that saves.
+fn saving_words(alloc: Global, words: &[String]) -> Result<Vec<String>> {
+    let mut kept = Vec::new(alloc);
+    for word in words {
+        if !is_section(word.as_str()) {
+            push_word(alloc, &mut kept, word.as_str())?;
         }
     }
+    push_word(alloc, &mut kept, "--save=day")?;
+    Ok(kept)
+}
+
+// So many lines of a text.
+fn first_lines(alloc: Global, text: &[u8], count: usize) -> Result<Vec<u8>> {
+    let mut first = Vec::new(alloc);
+    for line in split_lines(alloc, text)?.iter().take(count) {
+        first.extend_from_slice(line)?;
+    }
+    Ok(first)
+}
+
+// The other lines, which go on from what was saved. The calls that fail are counted on.
+fn second_part(alloc: Global, given: &Given, cut: usize, first: &Streams) -> Result<Given> {
+    let input = lines_behind(alloc, given.input.as_slice(), cut)?;
+    let failing = counted_on(alloc, given.failing_fetches.as_slice(), first.fetches)?;
+    let resumed = Vec::from_slice(alloc, first.saved.bytes())?;
+    let mut part = given.copy(alloc)?;
+    push_word(alloc, &mut part.words, "--resume=day")?;
+    part.resumed = resumed;
+    part.input = input;
+    part.failing_fetches = failing;
     Ok(part)
+}
+
+// The lines of a text behind so many.
+fn lines_behind(alloc: Global, text: &[u8], count: usize) -> Result<Vec<u8>> {
+    let mut others = Vec::new(alloc);
+    for line in split_lines(alloc, text)?.iter().skip(count) {
+        others.extend_from_slice(line)?;
+    }
+    Ok(others)
+}
+
+// The calls that fail behind so many, counted from there.
+fn counted_on(alloc: Global, calls: &[u64], made: u64) -> Result<Vec<u64>> {
+    let mut others = Vec::new(alloc);
+    for call in calls {
+        if *call > made {
+            others.push(*call - made)?;
+        }
+    }
+    Ok(others)
 }
 
 // What the second part must leave: the rest of the output after the first part's answers, and everything else as the whole; None where the
 // first part printed something else.
-fn rest(alloc: Global, whole: &Expected, first: &Left) -> Result<Option<Expected>> {
+fn rest(alloc: Global, whole: &Expected, first: &Streams) -> Result<Option<Expected>> {
     let answers = before_graphs(alloc, first.out.bytes())?;
     let Some(out) = whole.out.as_slice().strip_prefix(answers.as_slice()) else {
         return Ok(None);

@@ -20,20 +20,21 @@ pub struct Left {
     pub fetches: u64,
 }
 
+// What a run left besides its world.
+#[derive(Drop)]
+pub struct Streams {
+    pub status: Status,
+    pub out: MemorySink,
+    pub saved: MemorySink,
+    pub fetches: u64,
+}
+
+// The ports of a run over memory.
+type MemoryPorts = Ports<MemorySource, MemoryRevisions, MemorySink, MemorySink>;
+
 // Makes one run.
 pub fn run_over(alloc: Global, keys: RandomState, given: &Given) -> Result<Left> {
-    let events = source(alloc, given.input.as_slice(), &given.reads)?;
-    let resumed = source(alloc, given.resumed.as_slice(), &given.loads)?;
-    let revisions = revisions(alloc, given)?;
-    let out = sink(alloc, &given.writes)?;
-    let snapshot = sink(alloc, &given.saves)?;
-    let mut ports = Ports {
-        events,
-        revisions,
-        out,
-        snapshot,
-        resumed,
-    };
+    let mut ports = ports(alloc, given)?;
     let mut world = World::new(alloc, keys)?;
     let words = given.words.as_slice();
     let status = run(alloc, keys, words, &mut ports, &mut world);
@@ -44,6 +45,32 @@ pub fn run_over(alloc: Global, keys: RandomState, given: &Given) -> Result<Left>
         saved: ports.snapshot,
         world,
         fetches,
+    })
+}
+
+// All but the world that a run left.
+pub fn without_world(left: Left) -> Streams {
+    Streams {
+        status: left.status,
+        out: left.out,
+        saved: left.saved,
+        fetches: left.fetches,
+    }
+}
+
+// The ports over what is given.
+fn ports(alloc: Global, given: &Given) -> Result<MemoryPorts> {
+    let events = source(alloc, given.input.as_slice(), &given.reads)?;
+    let resumed = source(alloc, given.resumed.as_slice(), &given.loads)?;
+    let revisions = revisions(alloc, given)?;
+    let out = sink(alloc, &given.writes)?;
+    let snapshot = sink(alloc, &given.saves)?;
+    Ok(Ports {
+        events,
+        revisions,
+        out,
+        snapshot,
+        resumed,
     })
 }
 

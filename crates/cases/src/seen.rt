@@ -4,7 +4,7 @@ use crate::running::Left;
 use anyhow::{Context, Result, bail};
 use entity_model::{EntityId, Event, Kind, Unfit};
 use entity_state::Mode;
-use rdf_term::{Pattern, Term, Triple, read_term};
+use rdf_term::{Pattern, Term, Triple, TripleSet, read_term};
 use session::{status_number, status_text};
 use side_output::{Cause, Entry};
 use std::alloc::Global;
@@ -167,13 +167,18 @@ fn is_exported(world: &World, triple: &Triple) -> Option<bool> {
 // Whether the triple is in the set of what agrees with its object; None where memory is refused.
 fn is_found(alloc: Global, world: &World, triple: &Triple) -> Option<bool> {
     let object = triple.object.copy(alloc).ok()?;
+    let found = found_by_object(world, object)?;
+    Some(found.contains(triple))
+}
+
+// The set of what agrees with an object; None where memory is refused.
+fn found_by_object(world: &World, object: Term) -> Option<TripleSet> {
     let pattern = Pattern {
         subject: None,
         predicate: None,
         object: Some(object),
     };
-    let found = world.matches(&pattern).ok()?;
-    Some(found.contains(triple))
+    world.matches(&pattern).ok()
 }
 
 // The triple of a line of N-Triples; None too where memory is refused.
@@ -181,23 +186,23 @@ fn triple_in(alloc: Global, line: &str) -> Option<Triple> {
     let line = line.strip_suffix(" .")?;
     let (subject, rest) = line.split_once(' ')?;
     let (predicate, object) = rest.split_once(' ')?;
-    let subject = term_in(alloc, subject);
-    let predicate = term_in(alloc, predicate);
-    let object = term_in(alloc, object);
-    match (subject, predicate, object) {
-        (Some(subject), Some(predicate), Some(object)) => Some(Triple {
-            subject,
-            predicate,
-            object,
-        }),
-        _ => None,
-    }
+    let subject = term_in(alloc, subject)?;
+    let (predicate, object) = terms_in(alloc, predicate, object)?;
+    Some(Triple {
+        subject,
+        predicate,
+        object,
+    })
+}
+
+// The terms of two texts; None too where memory is refused.
+fn terms_in(alloc: Global, first: &str, second: &str) -> Option<(Term, Term)> {
+    let first = term_in(alloc, first)?;
+    let second = term_in(alloc, second)?;
+    Some((first, second))
 }
 
 // The term of a text; None too where memory is refused.
 fn term_in(alloc: Global, text: &str) -> Option<Term> {
-    match read_term(alloc, text) {
-        Ok(term) => term,
-        Err(_) => None,
-    }
+    read_term(alloc, text).unwrap_or(None)
 }

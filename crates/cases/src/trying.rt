@@ -1,8 +1,7 @@
 // A case tried: once, with each row of its table, or with each of its calls failing in turn.
 
-use crate::comparing::difference;
+use crate::comparing::tried_once;
 use crate::cutting::{is_cut, tried_in_two};
-use crate::running::run_over;
 use crate::trial::{Trial, differs_at};
 use anyhow::{Context, Result};
 use case_file::{
@@ -50,45 +49,54 @@ fn at_row(alloc: Global, row: &str, difference: &str) -> Result<String> {
 
 // Tries a case without a table.
 fn tried_alone(alloc: Global, keys: RandomState, case: &Case) -> Result<Trial> {
-    let given = given_of(alloc, case)?;
+    let mut given = given_of(alloc, case)?;
     let expected = expected_of(alloc, case)?;
+    tried_in_turns(alloc, keys, case, &mut given, &expected)
+}
+
+// Tries a case in the turns that it asks for.
+fn tried_in_turns(
+    alloc: Global,
+    keys: RandomState,
+    case: &Case,
+    given: &mut Given,
+    expected: &Expected,
+) -> Result<Trial> {
     match turns_of(case)? {
-        Turns::Once => {
-            let difference = tried_once(alloc, keys, &given, &expected)?;
-            if difference.is_none() && is_cut(case, &given, &expected) {
-                return tried_in_two(alloc, keys, given, expected);
-            }
-            Ok(Trial {
-                runs: 1,
-                difference,
-            })
-        }
+        Turns::Once => tried_whole(alloc, keys, case, given, expected),
         Turns::EachRead => tried_with_reads(alloc, keys, given, expected),
         Turns::EachWrite => tried_with_writes(alloc, keys, given, expected),
         Turns::EachSave => tried_with_saves(alloc, keys, given, expected),
-        Turns::EachLoad => tried_with_loads(alloc, keys, given, &expected),
-        Turns::EachFront(rev) => tried_with_fronts(alloc, keys, given, &expected, rev),
+        Turns::EachLoad => tried_with_loads(alloc, keys, given, expected),
+        Turns::EachFront(rev) => tried_with_fronts(alloc, keys, given, expected, rev),
         Turns::EachFrontOfSnapshot => tried_with_snapshots(alloc, keys, given),
     }
 }
 
-// Makes one run, and says how it differs.
-fn tried_once(
+// Tries a case once, and where it may be cut, cut in two as well.
+fn tried_whole(
     alloc: Global,
     keys: RandomState,
+    case: &Case,
     given: &Given,
     expected: &Expected,
-) -> Result<Option<String>> {
-    let left = run_over(alloc, keys, given)?;
-    difference(alloc, expected, &left)
+) -> Result<Trial> {
+    let difference = tried_once(alloc, keys, given, expected)?;
+    if difference.is_none() && is_cut(case, given, expected) {
+        return tried_in_two(alloc, keys, given, expected);
+    }
+    Ok(Trial {
+        runs: 1,
+        difference,
+    })
 }
 
 // Tries each read failing in turn, and then none: what the lines before it ask is answered.
 fn tried_with_reads(
     alloc: Global,
     keys: RandomState,
-    mut given: Given,
-    expected: Expected,
+    given: &mut Given,
+    expected: &Expected,
 ) -> Result<Trial> {
     let pieces = pieces_of_reads(alloc, given.input.as_slice(), given.reads.bytes.max(1))?;
     let mut taken = Vec::new(alloc);
@@ -98,14 +106,14 @@ fn tried_with_reads(
         let asked = questions(alloc, taken.as_slice())?;
         let out = answers(alloc, expected.out.as_slice(), asked)?;
         let before = stopped(alloc, "3 wdq: read fault", out)?;
-        if let Some(difference) = tried_once(alloc, keys, &given, &before)? {
+        if let Some(difference) = tried_once(alloc, keys, given, &before)? {
             return differs_at(alloc, "the failing read", call, call, difference.as_str());
         }
         taken.extend_from_slice(piece.as_slice())?;
         call = call.saturating_add(1);
     }
     given.reads.failing = vec![in alloc; call]?;
-    let difference = tried_once(alloc, keys, &given, &expected)?;
+    let difference = tried_once(alloc, keys, given, expected)?;
     Ok(Trial {
         runs: call,
         difference,
@@ -116,8 +124,8 @@ fn tried_with_reads(
 fn tried_with_writes(
     alloc: Global,
     keys: RandomState,
-    mut given: Given,
-    expected: Expected,
+    given: &mut Given,
+    expected: &Expected,
 ) -> Result<Trial> {
     let pieces = pieces_of_writes(alloc, expected.out.as_slice(), given.writes.bytes.max(1))?;
     let mut taken = Vec::new(alloc);
@@ -126,14 +134,14 @@ fn tried_with_writes(
         given.writes.failing = vec![in alloc; call]?;
         let out = Vec::from_slice(alloc, taken.as_slice())?;
         let before = stopped(alloc, "4 wdq: write fault", out)?;
-        if let Some(difference) = tried_once(alloc, keys, &given, &before)? {
+        if let Some(difference) = tried_once(alloc, keys, given, &before)? {
             return differs_at(alloc, "the failing write", call, call, difference.as_str());
         }
         taken.extend_from_slice(piece.as_slice())?;
         call = call.saturating_add(1);
     }
     given.writes.failing = vec![in alloc; call]?;
-    let difference = tried_once(alloc, keys, &given, &expected)?;
+    let difference = tried_once(alloc, keys, given, expected)?;
     Ok(Trial {
         runs: call,
         difference,
@@ -144,8 +152,8 @@ fn tried_with_writes(
 fn tried_with_saves(
     alloc: Global,
     keys: RandomState,
-    mut given: Given,
-    expected: Expected,
+    given: &mut Given,
+    expected: &Expected,
 ) -> Result<Trial> {
     let saved = expected.saved.as_ref().context("what is saved")?;
     let pieces = pieces_of_writes(alloc, saved.as_slice(), given.saves.bytes.max(1))?;
@@ -156,14 +164,14 @@ fn tried_with_saves(
         let out = Vec::from_slice(alloc, expected.out.as_slice())?;
         let mut before = stopped(alloc, "4 wdq: write fault", out)?;
         before.saved = Some(Vec::from_slice(alloc, taken.as_slice())?);
-        if let Some(difference) = tried_once(alloc, keys, &given, &before)? {
+        if let Some(difference) = tried_once(alloc, keys, given, &before)? {
             return differs_at(alloc, "the failing save", call, call, difference.as_str());
         }
         taken.extend_from_slice(piece.as_slice())?;
         call = call.saturating_add(1);
     }
     given.saves.failing = vec![in alloc; call]?;
-    let difference = tried_once(alloc, keys, &given, &expected)?;
+    let difference = tried_once(alloc, keys, given, expected)?;
     Ok(Trial {
         runs: call,
         difference,
@@ -174,7 +182,7 @@ fn tried_with_saves(
 fn tried_with_loads(
     alloc: Global,
     keys: RandomState,
-    mut given: Given,
+    given: &mut Given,
     expected: &Expected,
 ) -> Result<Trial> {
     let pieces = pieces_of_reads(alloc, given.resumed.as_slice(), given.loads.bytes.max(1))?;
@@ -182,12 +190,12 @@ fn tried_with_loads(
     for call in 1..=calls {
         given.loads.failing = vec![in alloc; call]?;
         let before = stopped(alloc, "3 wdq: read fault", Vec::new(alloc))?;
-        if let Some(difference) = tried_once(alloc, keys, &given, &before)? {
+        if let Some(difference) = tried_once(alloc, keys, given, &before)? {
             return differs_at(alloc, "the failing load", call, call, difference.as_str());
         }
     }
     given.loads.failing = Vec::new(alloc);
-    let difference = tried_once(alloc, keys, &given, expected)?;
+    let difference = tried_once(alloc, keys, given, expected)?;
     Ok(Trial {
         runs: calls.saturating_add(1),
         difference,
@@ -195,7 +203,7 @@ fn tried_with_loads(
 }
 
 // Tries each front of the snapshot, from no byte to all but the last: each is refused at its last line, and nothing is printed.
-fn tried_with_snapshots(alloc: Global, keys: RandomState, mut given: Given) -> Result<Trial> {
+fn tried_with_snapshots(alloc: Global, keys: RandomState, given: &mut Given) -> Result<Trial> {
     let whole = Vec::from_slice(alloc, given.resumed.as_slice())?;
     let mut runs = 0u64;
     for length in 0..whole.len() {
@@ -212,7 +220,7 @@ fn tried_with_snapshots(alloc: Global, keys: RandomState, mut given: Given) -> R
         let status = format!(in alloc; "8 wdq: snapshot: line {line}")?;
         let refused = stopped(alloc, status.as_str(), Vec::new(alloc))?;
         runs = runs.saturating_add(1);
-        if let Some(difference) = tried_once(alloc, keys, &given, &refused)? {
+        if let Some(difference) = tried_once(alloc, keys, given, &refused)? {
             return differs_at(alloc, "the byte", length as u64, runs, difference.as_str());
         }
     }
@@ -226,17 +234,17 @@ fn tried_with_snapshots(alloc: Global, keys: RandomState, mut given: Given) -> R
 fn tried_with_fronts(
     alloc: Global,
     keys: RandomState,
-    mut given: Given,
+    given: &mut Given,
     expected: &Expected,
     rev: u64,
 ) -> Result<Trial> {
-    let page = page_of(alloc, &given, rev)?;
+    let page = page_of(alloc, given, rev)?;
     let mut runs = 0u64;
     for length in 0..page.len() {
         let front = page.as_slice().split_at_checked(length).context("a front")?;
-        set_page(alloc, &mut given, rev, front.0)?;
+        set_page(alloc, given, rev, front.0)?;
         runs = runs.saturating_add(1);
-        if let Some(difference) = tried_once(alloc, keys, &given, expected)? {
+        if let Some(difference) = tried_once(alloc, keys, given, expected)? {
             return differs_at(alloc, "the byte", length as u64, runs, difference.as_str());
         }
     }

@@ -9,7 +9,7 @@ use rdf_term::OutOfMemory;
 use replica::Replica;
 use std::alloc::Global;
 use text_output::{Unwritten, write_all};
-use transcript::print_triples;
+use triple_output::print_triples;
 use wq_io::Sink;
 
 // Prints how many records were applied, and, where it is wanted, the section of the triples.

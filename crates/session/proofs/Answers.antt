@@ -7,9 +7,9 @@ use Rattle.replay_model.specs.Play.{Played}
 use Rattle.replay_model.specs.Records.{Records}
 use Rattle.replay_model.specs.Transcript.{Question, Sections, answer_section, for_bindings, for_triples}
 use Rattle.replay_model.specs.Versions.{all_by, meaning_by}
-use Rattle.subgraph.specs.declared.routes.Route.{Route}
+use Rattle.graph_routes.specs.declared.routes.Route.{Route}
 use Rattle.subgraph.specs.Laws.{routed_union}
-use Rattle.subgraph.specs.Routes.{graph_name}
+use Rattle.graph_routes.specs.Routes.{graph_name}
 use Rattle.world.specs.Meaning.{meaning}
 use Rattle.transcript.specs.Sections.{closing_of}
 use Rattle.splitting.specs.Graphs.{routing_by}

@@ -33,7 +33,7 @@ use Rattle.text_output.specs.Printing.{Output}
 use Rattle.patch_stream.specs.Stream.{Step, step, steps_due}
 use Rattle.session.specs.Counts.{SourceCounts, HasCounted, HasCountedUnapplied, HasGoneOn, RoseBy}
 use Rattle.session.specs.Course.{Course}
-use Rattle.subgraph.specs.declared.routes.Route.{Route}
+use Rattle.graph_routes.specs.declared.routes.Route.{Route}
 use Rattle.session.specs.declared.report.Report.{Report}
 use Rattle.session.specs.declared.report.Report.TheVariants.{Answers}
 use Rattle.session.specs.declared.stop.Halt.TheVariants.{Unapplied as NotApplied, Untold}

@@ -38,7 +38,7 @@ use Rattle.checkpoint.specs.declared.numbers.Numbers.{Numbers}
 use Rattle.session.specs.Saving.{numbers_after, numbers_of}
 use Rattle.session.specs.Stop.{stop_of_halt, stop_of_unapplied, stop_of_unwritten}
 use Rattle.session.specs.Stops.{HasTaken, IsHalted}
-use Rattle.subgraph.specs.declared.routes.Route.{Route}
+use Rattle.graph_routes.specs.declared.routes.Route.{Route}
 use Rattle.replay_model.specs.Versions.{meaning_by}
 use Rattle.session.specs.Answering.{closing_by, closing_held}
 use Rattle.session.specs.declared.report.Report.{Report}

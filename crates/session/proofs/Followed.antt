@@ -12,7 +12,7 @@ use Rattle.replay_model.specs.ReplayState.{ReplayState}
 use Rattle.replay_model.specs.Union.{union}
 use Rattle.world.specs.Meaning.{meaning}
 use Rattle.replica.specs.declared.record.PatchRecord.{PatchRecord}
-use Rattle.subgraph.specs.declared.routes.Route.{Route}
+use Rattle.graph_routes.specs.declared.routes.Route.{Route}
 use Rattle.replica.specs.Laws.{IsGreatest}
 use Rattle.replica.specs.Record.{record_lines}
 use Rattle.replica.specs.Replica.{after}

@@ -11,7 +11,7 @@ use Rattle.replay_model.proofs.Following.{following-end, newly_due-end, newly_du
 use Rattle.replay_model.proofs.Printing.{said-push}
 use Rattle.replay_parts.specs.Checkpoint.{Checkpoint, advanced, checkpoint}
 use Rattle.replay_parts.proofs.GoingOn.{checkpoint-advanced, checkpoint-append}
-use Rattle.subgraph.specs.declared.routes.Route.{Route}
+use Rattle.graph_routes.specs.declared.routes.Route.{Route}
 use Rattle.world.specs.Meaning.{meaning}
 use Rattle.patch_stream.specs.Stream.{Step, steps_applied, steps_due, steps_of_play, steps_to_end, stream_text}
 use Rattle.patch_stream.proofs.Chains.{steps-push}

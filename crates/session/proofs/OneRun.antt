@@ -13,7 +13,7 @@ use Rattle.replay_model.proofs.LateEntries.{late-played}
 use Rattle.replay_model.proofs.Settled.{Tells-played, settled-played}
 use Rattle.replay_parts.specs.Checkpoint.{Checkpoint, advanced, advanced_by, answer_at, checkpoint, said_from, version_after}
 use Rattle.replay_parts.proofs.TwoRuns.{checkpoint-two, following_to_end-two, said-two}
-use Rattle.subgraph.specs.declared.routes.Route.{Route}
+use Rattle.graph_routes.specs.declared.routes.Route.{Route}
 use Rattle.replay_model.specs.Versions.{all_by}
 use Rattle.world.specs.Meaning.{meaning}
 use Rattle.patch_stream.specs.Stream.{Step, changes, steps_anew, steps_due, steps_of_play, stream_text}

@@ -30,7 +30,7 @@ use Rattle.replica.specs.Record.{record_text}
 use Rattle.patch_stream.specs.Stream.{Step, changes, record_of_step, steps_anew}
 use Rattle.session.specs.Answering.{answer_held, answer_text}
 use Rattle.checkpoint.specs.declared.numbers.Numbers.{Numbers}
-use Rattle.subgraph.specs.declared.routes.Route.{Route}
+use Rattle.graph_routes.specs.declared.routes.Route.{Route}
 use Rattle.session.specs.declared.report.Report.{Report}
 use Rattle.session.specs.declared.report.Report.TheVariants.{Answers, Changes}
 use Rattle.session.specs.declared.stop.Halt.{Halt}

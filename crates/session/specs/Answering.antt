@@ -10,7 +10,7 @@ use Rattle.replay_model.specs.Records.{Records}
 use Rattle.replay_model.specs.Transcript.{Question, Sections, answer_section, closing_text, for_bindings, for_triples, question_of}
 use Rattle.replay_model.specs.Union.{Meaning, union}
 use Rattle.replay_model.specs.Versions.{meaning_by}
-use Rattle.subgraph.specs.declared.routes.Route.{Route}
+use Rattle.graph_routes.specs.declared.routes.Route.{Route}
 use Rattle.subgraph.specs.Laws.{routed_union}
 use Rattle.world.specs.Meaning.{meaning}
 use Rattle.transcript.specs.Sections.{closing_of}

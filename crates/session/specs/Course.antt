@@ -7,7 +7,7 @@ use Rattle.entity_model.specs.declared.mapping.MappingVersion.{MappingVersion}
 use Rattle.replay_model.specs.Play.{Fetch, Replies}
 use Rattle.replay_model.specs.ReplayState.{ReplayState, after_end, ended, fetches_due}
 use Rattle.replay_model.specs.Transcript.{Sections}
-use Rattle.subgraph.specs.declared.routes.Route.{Route}
+use Rattle.graph_routes.specs.declared.routes.Route.{Route}
 use Rattle.patch_stream.specs.Stream.{Step, steps_due}
 use Rattle.session.specs.Along.{along, fetches_of_delivery, state_along, steps_of_delivery, version_since}
 use Rattle.session.specs.Answering.{closing_by, said_by}

@@ -16,7 +16,7 @@ use Rattle.following.specs.Input.{Input, input}
 use Rattle.checkpoint.specs.declared.numbers.Numbers.{Numbers}
 use Rattle.session.specs.declared.ports.Ports.{Ports}
 use Rattle.session.specs.declared.report.Report.{Report}
-use Rattle.subgraph.specs.declared.routes.Route.{Route}
+use Rattle.graph_routes.specs.declared.routes.Route.{Route}
 use Rattle.session.specs.Counts.{SourceCounts, counts}
 use Rattle.session.specs.Remapping.{Mapped, mapped_in}
 use Rattle.words.specs.Options.{Choices, folder_of, max_terms_of}

@@ -7,7 +7,7 @@ use Rattle.replay_model.specs.Play.{Replies}
 use Rattle.replay_model.specs.ReplayState.{ReplayState, following, following_to_end}
 use Rattle.replay_model.specs.Transcript.{Sections, asks, closing_text, matches, said}
 use Rattle.replay_parts.specs.Checkpoint.{checkpoint_at_start, replies_of_runs}
-use Rattle.subgraph.specs.declared.routes.Route.{Route}
+use Rattle.graph_routes.specs.declared.routes.Route.{Route}
 use Rattle.patch_stream.specs.Stream.{Step, steps_of_play, steps_to_end}
 use Rattle.world.specs.Meaning.{meaning}
 use Rattle.checkpoint.specs.declared.numbers.Numbers.{Numbers}

@@ -1,7 +1,7 @@
 -- Words that are not understood.
 use Rattle.std.specs.Prelude.{◌≡◌, ◌⊎◌, ℕ, List, None, Some}
-use Rattle.subgraph.specs.declared.routes.Route.{Route}
-use Rattle.subgraph.specs.Routes.{AreRoutesIn}
+use Rattle.graph_routes.specs.declared.routes.Route.{Route}
+use Rattle.graph_routes.specs.Routes.{AreRoutesIn}
 use Rattle.words.specs.Options.{SplitChoices}
 use Rattle.words.specs.Plan.{plan_of}
 use Rattle.words.specs.declared.plan.Plan.TheVariants.{Split}

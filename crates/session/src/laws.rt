@@ -24,7 +24,7 @@ ghost use Rattle.wq_io.specs.Streams.{after_known};
 ghost use Rattle.replica.specs.declared.record.PatchRecord.{PatchRecord};
 ghost use Rattle.patch_stream.specs.Laws.{AreOfStream, HasWritableSides};
 ghost use Rattle.patch_stream.specs.Stream.{Step, changes, steps_of_play, steps_to_end, stream, stream_text};
-ghost use Rattle.subgraph.specs.declared.routes.Route.{Route};
+ghost use Rattle.graph_routes.specs.declared.routes.Route.{Route};
 ghost use Rattle.words.specs.Options.{FollowChoices, closes, follow_max_bytes_of, max_bytes_of, max_terms_of};
 ghost use Rattle.following.specs.Following.{Ending as Followed, FollowMoment, replica_text};
 ghost use Rattle.following.specs.Reading.{AreRecords};

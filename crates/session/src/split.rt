@@ -2,8 +2,8 @@
 
 ghost use Rattle.std.specs.Prelude.{◌≡◌, ◌⊎◌, List, None, Some, IsSome};
 ghost use Rattle.replay_model.specs.ReplayState.{nothing_delivered};
-ghost use Rattle.subgraph.specs.declared.routes.Route.{Route};
-ghost use Rattle.subgraph.specs.Routes.{AreRoutesIn};
+ghost use Rattle.graph_routes.specs.declared.routes.Route.{Route};
+ghost use Rattle.graph_routes.specs.Routes.{AreRoutesIn};
 ghost use Rattle.session.specs.declared.report.Report.TheVariants.{Answers};
 ghost use Rattle.session.specs.Counts.{HaveGoneOn};
 ghost use Rattle.session.specs.Headline.{ReplayEnding};
@@ -17,11 +17,11 @@ use crate::report::Report;
 use crate::resuming::{refuse, replay};
 use crate::status::Status;
 use crate::task::{NOTHING_REPORTED, Task};
+use graph_routes::Routes;
 use rdf_term::OutOfMemory;
 use revisions::Revisions;
 use std::alloc::Global;
 use std::hash::RandomState;
-use subgraph::Routes;
 use words::SplitOptions;
 use world::World;
 use wq_io::{Sink, Source};

@@ -22,10 +22,10 @@ use Rattle.replay_model.specs.Play.{held_after_fetch, record_after, records_afte
 use Rattle.replay_model.specs.Records.{Bytes, Records, record_of}
 use Rattle.replay_model.specs.ReplayState.{ReplayState}
 use Rattle.replay_model.specs.Versions.{meaning_by, version_at, with_version}
-use Rattle.subgraph.specs.declared.routes.Route.{Route}
+use Rattle.graph_routes.specs.declared.routes.Route.{Route}
 use Rattle.subgraph.specs.Entries.{Entries, Entry}
 use Rattle.subgraph.specs.Laws.{IsSplitOf, entry_held}
-use Rattle.subgraph.specs.Routing.{classes_said, leads}
+use Rattle.graph_routes.specs.Routing.{classes_said, leads}
 use Rattle.subgraph.specs.Split.{entry, graph_of}
 use Rattle.world.specs.declared.applied.Applied.{Applied}
 use Rattle.world.specs.declared.applied.Outcome.{Outcome}

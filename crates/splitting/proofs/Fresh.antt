@@ -9,7 +9,7 @@ use Rattle.replay_model.specs.ReplayState.{nothing_delivered_within}
 use Rattle.replay_model.specs.Versions.{meaning_by}
 use Rattle.replay_model.proofs.RecordOf.{record_of-empty}
 use Rattle.subgraph.specs.Entries.{Entries}
-use Rattle.subgraph.specs.declared.routes.Route.{Route}
+use Rattle.graph_routes.specs.declared.routes.Route.{Route}
 use Rattle.subgraph.specs.Laws.{IsSplitOf, entry_held}
 use Rattle.world.specs.Meaning.{meaning}
 use Rattle.world.specs.WorldState.{AreHolders, WorldState}

@@ -23,7 +23,7 @@ use Rattle.replay_model.specs.Records.{Bytes, Records}
 use Rattle.replay_model.specs.Union.{Meaning, triples_held, union}
 use Rattle.replay_model.specs.Versions.{all_by, meaning_by, version_at}
 use Rattle.replay_model.proofs.Versions.{has-holders, holders-rise, version-all}
-use Rattle.subgraph.specs.declared.routes.Route.{Route}
+use Rattle.graph_routes.specs.declared.routes.Route.{Route}
 use Rattle.subgraph.specs.Entries.{Entries, Entry, graph_triples, terms_with, triples_in}
 use Rattle.subgraph.specs.Laws.{entry_held}
 use Rattle.subgraph.specs.Split.{entry}

@@ -4,10 +4,10 @@ use Rattle.rdf_term.specs.declared.pattern.Pattern.{Pattern}
 use Rattle.rdf_term.specs.declared.triple.Triple.{Triple}
 use Rattle.rdf_term.specs.Pattern.{rows}
 use Rattle.replay_model.specs.Versions.{meaning_by}
-use Rattle.subgraph.specs.declared.routes.Route.{Route}
+use Rattle.graph_routes.specs.declared.routes.Route.{Route}
 use Rattle.subgraph.specs.Entries.{Entries, graph_triples}
 use Rattle.subgraph.specs.Laws.{routed_union}
-use Rattle.subgraph.specs.Routes.{graph_name}
+use Rattle.graph_routes.specs.Routes.{graph_name}
 use Rattle.subgraph.proofs.Routed.{follow_the_records}
 use Rattle.text_output.specs.declared.write.Unwritten.{Unwritten}
 use Rattle.text_output.specs.Printing.{Output, Prints}

@@ -10,7 +10,7 @@ use Rattle.entity_state.specs.declared.record.Held.{Held}
 use Rattle.replay_model.specs.Records.{Bytes}
 use Rattle.replay_model.specs.Union.{triples_held, union}
 use Rattle.replay_model.specs.Versions.{meaning_by}
-use Rattle.subgraph.specs.declared.routes.Route.{Route}
+use Rattle.graph_routes.specs.declared.routes.Route.{Route}
 use Rattle.subgraph.specs.Entries.{Entries, graph_triples, terms_with}
 use Rattle.subgraph.specs.Split.{graph_of}
 use Rattle.subgraph.proofs.Routed.{fewer_terms, need_no_more_room}

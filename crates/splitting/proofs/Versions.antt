@@ -13,7 +13,7 @@ use Rattle.replay_model.specs.Records.{Bytes, Records}
 use Rattle.replay_model.specs.Union.{Meaning}
 use Rattle.replay_model.specs.Versions.{all_by, meaning_by}
 use Rattle.replay_model.proofs.Versions.{version-all}
-use Rattle.subgraph.specs.declared.routes.Route.{Route}
+use Rattle.graph_routes.specs.declared.routes.Route.{Route}
 use Rattle.subgraph.specs.Laws.{routed_union, triples_routed}
 use Rattle.subgraph.proofs.Owning.{gathered_if, same_gathered}
 use Rattle.world.specs.Meaning.{meaning}

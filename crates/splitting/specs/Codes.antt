@@ -5,8 +5,8 @@ use Rattle.std.specs.FinMap as map
 use Rattle.entity_model.specs.contracts.id.EntityId as entity_id
 use Rattle.subgraph.specs.Codes.{entry_code}
 use Rattle.subgraph.specs.Entries.{Entries}
-use Rattle.subgraph.specs.contracts.routes.Route as route
-use Rattle.subgraph.specs.declared.routes.Route.{Route}
+use Rattle.graph_routes.specs.contracts.routes.Route as route
+use Rattle.graph_routes.specs.declared.routes.Route.{Route}
 use Rattle.splitting.specs.Graphs.{GraphsState}
 
 abbrev pub graphs_code : Coded GraphsState

@@ -6,7 +6,7 @@ use Rattle.entity_model.specs.declared.id.EntityId.{EntityId}
 use Rattle.entity_model.specs.EntityId.{entity_cmp}
 use Rattle.replay_model.specs.Records.{record_of}
 use Rattle.replay_model.specs.Versions.{all_by, meaning_by}
-use Rattle.subgraph.specs.declared.routes.Route.{Route}
+use Rattle.graph_routes.specs.declared.routes.Route.{Route}
 use Rattle.subgraph.specs.Entries.{Entries, Entry}
 use Rattle.subgraph.specs.Laws.{entry_held}
 use Rattle.world.specs.Meaning.{meaning}

@@ -8,7 +8,7 @@ use Rattle.rdf_term.specs.Fit.{HasFitAndShortTerms}
 use Rattle.rdf_term.specs.Order.{triple_cmp}
 use Rattle.entity_model.specs.declared.id.EntityId.{EntityId}
 use Rattle.replay_model.specs.Versions.{meaning_by}
-use Rattle.subgraph.specs.declared.routes.Route.{Route}
+use Rattle.graph_routes.specs.declared.routes.Route.{Route}
 use Rattle.subgraph.specs.Entries.{Entries, graph_triples, terms_with}
 use Rattle.subgraph.specs.Laws.{IsSplitOf, Routing}
 use Rattle.subgraph.specs.Split.{entry, graph_of}

@@ -16,11 +16,12 @@ ghost use Rattle.world.specs.WorldState.{AreHolders, WorldState, by_two_after, n
 ghost use Rattle.splitting.specs.Graphs.{AreEntriesAfter, AreEntriesAnew, Follow, HasRoomAnewIn, HasRoomIn, HaveRoom, HaveRoomAnew, IsSound, IsSoundFor};
 
 use entity_model::EntityId;
+use graph_routes::Routes;
 use rdf_term::OutOfMemory;
 use std::alloc::Global;
 use std::hash::RandomState;
 use std::marker::Model;
-use subgraph::{Routes, Split, StoreFault};
+use subgraph::{Split, StoreFault};
 use triple_texts::TripleTexts;
 use world::{Applied, Outcome, RoutedPage};
 

@@ -12,7 +12,7 @@ ghost use Rattle.splitting.specs.Graphs.{IsSound, MayFollow, MayHaveRoom, MayHav
 
 use crate::graphs::Graphs;
 use entity_model::EntityId;
-use subgraph::Routes;
+use graph_routes::Routes;
 use triple_texts::TripleTexts;
 use world::{Applied, RoutedPage};
 

@@ -14,7 +14,7 @@ use crate::lines::{graph_answer_line, graph_line};
 use rdf_term::Pattern;
 use std::alloc::Global;
 use text_output::Unwritten;
-use transcript::print_section;
+use triple_output::print_section;
 use triple_store::Rows;
 use wq_io::Sink;
 

@@ -1,7 +1,4 @@
-pub mod Cutting
-pub mod Leading
 pub mod Owning
-pub mod Parsed
 pub mod Placed
 pub mod Routed
 pub mod Stepping

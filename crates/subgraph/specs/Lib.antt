@@ -3,7 +3,4 @@ pub mod Entries
 pub mod Graph
 pub mod Laws
 pub mod Placing
-pub mod Reading
-pub mod Routes
-pub mod Routing
 pub mod Split

@@ -1,15 +1,6 @@
 // What holds of the definitions themselves. Each law is the contract of a function that does nothing.
 
-ghost use Rattle.std.specs.Prelude.{◌≡◌, ◌↔◌, ℕ, List, Some};
-ghost use Rattle.subgraph.specs.declared.routes.Route.{Route as TheRoute};
 ghost use Rattle.subgraph.specs.Laws.{GraphsAreTheUnion, GraphsFollowTheRecords, GraphsNeedNoMoreRoom};
-ghost use Rattle.subgraph.specs.Reading.{routes_in};
-ghost use Rattle.subgraph.specs.Routes.{AreRoutesIn};
-
-/// The routes that are computed of a text are those whose text it is.
-pub fn routes_are_read_from_their_text()
-    ensures { (text : List ℕ) (routes : List TheRoute) → (routes_in text ≡ Some routes) ↔ AreRoutesIn text routes }
-{}
 
 /// Where each page is routed to one of n graphs, a triple is in one of the graphs exactly where it is in the union of all that is held.
 pub fn graphs_are_the_union()

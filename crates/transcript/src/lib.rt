@@ -1,8 +1,8 @@
-//! What a replay prints: the answers to questions, and the sections after the end, written to a sink; a follower prints with the same calls.
+//! What a replay prints: the answers to questions, and the sections after the end, written to a sink.
 //!
 //! What the bytes are is said by the definitions of `replay_model`; this crate writes them, or a prefix of them. `sections`
-//! has the answer to an ask and the sections, `bindings` that to a match; `triples`, `states` and `entries` print the parts, and `lines` makes a
-//! line's text.
+//! has the answer to an ask and the sections, `bindings` that to a match; `states` and `entries` print the parts, and `lines` makes a line's
+//! text. The crate `triple_output` prints the triples.
 #![tactic(auto)]
 
 mod bindings;
@@ -10,8 +10,6 @@ mod entries;
 mod lines;
 mod sections;
 mod states;
-mod triples;
 
 pub use bindings::print_match;
-pub use sections::{Sections, print_answer, print_closing, print_triples};
-pub use triples::print_section;
+pub use sections::{Sections, print_answer, print_closing};

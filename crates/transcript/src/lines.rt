@@ -1,21 +1,13 @@
 // The lines of the transcript, but for those of the triples.
 
 ghost use Rattle.std.specs.Prelude.{◌≡◌, IfOk, string_bytes};
-ghost use Rattle.replay_model.specs.Transcript.{ask_head, cause_word, entry_line, entry_word, entry_words, event_words, export_head, kind_word, match_head, mode_line, open_word, side_line, state_line, stated_line, unfit_word};
+ghost use Rattle.replay_model.specs.Transcript.{ask_head, cause_word, entry_line, entry_word, entry_words, event_words, kind_word, match_head, mode_line, open_word, side_line, state_line, stated_line, unfit_word};
 
 use entity_model::{EntityId, Event, Kind, Unfit};
 use entity_state::{Mode, State};
 use rdf_term::OutOfMemory;
 use side_output::{Cause, Entry};
 use std::alloc::Global;
-
-// The first line of an export.
-#[tactic(auto, unfolding(replay_model::specs::Transcript::export_head))]
-pub(crate) fn export_line(alloc: Global, count: usize) -> Result<String, OutOfMemory>
-    ensures { IfOk result (λ line. string_bytes line ≡ export_head count) }
-{
-    Ok(format!(in alloc; "# export: {count} triples\n")?)
-}
 
 // The first line of the answer to the question with this number.
 #[tactic(auto, unfolding(replay_model::specs::Transcript::ask_head))]

@@ -11,13 +11,12 @@ ghost use Rattle.text_output.specs.Printing.{Prints, output};
 ghost use Rattle.transcript.specs.Sections.{chosen, closing_of};
 
 use crate::entries::print_entries;
-use crate::lines::{answer_line, export_line};
+use crate::lines::answer_line;
 use crate::states::print_states;
-use crate::triples::print_section;
 use rdf_term::Pattern;
 use std::alloc::Global;
 use text_output::Unwritten;
-use triple_store::Rows;
+use triple_output::{print_section, print_triples};
 use world::World;
 use wq_io::Sink;
 
@@ -85,17 +84,6 @@ fn print_export<K: Sink>(
     }
     let rows = world.rows()?;
     print_triples(alloc, &rows, out)
-}
-
-/// Prints the section of an export: how many triples there are, and the line of each.
-///
-/// # Errors
-/// The output could not be written, or memory was refused: then a prefix of the section was written, and nothing else.
-pub fn print_triples<K: Sink>(alloc: Global, rows: &Rows<'_>, out: &mut K) -> Result<(), Unwritten>
-    ensures { Prints (export_section rows.now) (output K.Sink out.old) (output K.Sink out.new) result }
-{
-    let head = export_line(alloc, rows.len())?;
-    print_section(alloc, head.as_str(), rows, out)
 }
 
 // Prints the section of the states, where it is wanted.

@@ -13,8 +13,8 @@ use Rattle.entity_state.specs.declared.record.Held.{Held}
 use Rattle.replay_model.specs.Records.{Bytes}
 use Rattle.replay_model.specs.Union.{triples_held}
 use Rattle.side_output.specs.declared.entry.Cause.{Cause}
-use Rattle.subgraph.specs.declared.routes.Route.{Route}
-use Rattle.subgraph.specs.Routing.{route_of}
+use Rattle.graph_routes.specs.declared.routes.Route.{Route}
+use Rattle.graph_routes.specs.Routing.{route_of}
 use Rattle.world.specs.declared.applied.Outcome.{Outcome}
 use Rattle.world.specs.declared.applied.Outcome.TheVariants.{Same, Stored, Dropped, Sided}
 use Rattle.world.specs.declared.applied.RoutedPage.{RoutedPage}

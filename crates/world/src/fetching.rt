@@ -14,8 +14,8 @@ ghost use Rattle.world.specs.Applying.{IsJudged, IsReply, IsShown, outcome_of_re
 ghost use Rattle.world.specs.Compared.{HasEntity, IsChangeOfHeld, IsKnownPage};
 ghost use Rattle.world.specs.Fetched.{IsMeant, IsPageOf, IsWhy, bytes_of, reply_of, reply_of_whole};
 ghost use Rattle.world.specs.Listed.{IsListed, counts_if};
-ghost use Rattle.subgraph.specs.declared.routes.Route.{Route};
-ghost use Rattle.subgraph.specs.Routing.{route_of};
+ghost use Rattle.graph_routes.specs.declared.routes.Route.{Route};
+ghost use Rattle.graph_routes.specs.Routing.{route_of};
 ghost use Rattle.world.specs.Meaning.{document_triples, meaning};
 ghost use Rattle.world.specs.Routed.{IsReplyRouted, route_by};
 
@@ -24,11 +24,11 @@ use crate::meaning::document_texts;
 use entity_json::{DocumentFault, document};
 use entity_model::{Document, EntityId, MappingVersion};
 use entity_rdf::Counts;
+use graph_routes::{Routes, route};
 use rdf_term::{List, OutOfMemory};
 use revisions::{NoRevision, Revisions};
 use side_output::Cause;
 use std::alloc::Global;
-use subgraph::{Routes, route};
 use triple_texts::TripleTexts;
 
 /// A document as it was fetched: its bytes, the texts of the triples that they mean by a version of the mapping, its counts, if it is that

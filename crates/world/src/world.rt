@@ -25,6 +25,7 @@ use crate::applied::{Application, Applied, Effect, Handling, WorldFault};
 use crate::fetching::{Beside, Reply, Wanted, fetch};
 use crate::holdings::Holdings;
 use entity_model::{Event, MappingVersion};
+use graph_routes::Routes;
 use rdf_term::OutOfMemory;
 use reorder_buffer::{Buffer, Taken};
 use revisions::Revisions;
@@ -32,7 +33,6 @@ use side_output::{Entry, Side};
 use std::alloc::Global;
 use std::hash::RandomState;
 use std::marker::Model;
-use subgraph::Routes;
 use triple_store::{StoreFault, Telling};
 
 // The limit of a world, unless it is set otherwise.

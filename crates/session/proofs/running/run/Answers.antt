@@ -1,7 +1,7 @@
 -- What a replay, a drill and a follower leave, by the plan that was read.
 use Rattle.std.proofs.Common.{◌≡◌, ◌∙◌, sym, ap, List, None, Some, IsSome, inr, refl}
-use Rattle.subgraph.specs.declared.routes.Route.{Route}
-use Rattle.subgraph.specs.Routes.{AreRoutesIn}
+use Rattle.graph_routes.specs.declared.routes.Route.{Route}
+use Rattle.graph_routes.specs.Routes.{AreRoutesIn}
 use Rattle.words.specs.declared.plan.Plan.TheVariants.{Replay, Drill, Follow}
 use Rattle.session.specs.declared.report.Report.TheVariants.{Answers}
 use Rattle.session.specs.declared.status.Status.TheVariants.{Ok as Ended}

@@ -1,0 +1,3 @@
+pub mod Reading
+pub mod Routes
+pub mod Routing

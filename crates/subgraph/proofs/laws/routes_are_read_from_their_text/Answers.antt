@@ -1,6 +1,0 @@
--- The lemma says it.
-use Rattle.subgraph.proofs.Parsed.{routes_are}
-use Rattle.subgraph.proofs.laws.routes_are_read_from_their_text.Goals as goal
-
-pub returns : goal.returns
-returns c = routes_are

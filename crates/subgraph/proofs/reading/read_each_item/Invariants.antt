@@ -1,7 +1,0 @@
--- What was read is that of the pieces so far.
-use Rattle.std.proofs.Common.{◌≡◌, Some, take}
-use Rattle.subgraph.specs.Reading.{item_of, read_each}
-use Rattle.subgraph.proofs.reading.read_each_item.Given as goal
-
-abbrev pub invariant-loop-piece : goal.invariant-loop-piece
-invariant-loop-piece l = read_each item_of (take l.piece-index l.pieces) ≡ Some l.classes
