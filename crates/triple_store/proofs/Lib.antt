@@ -36,3 +36,5 @@ pub mod Afterwards
 pub mod Multitude
 pub mod Along
 pub mod Counted
+pub mod Staying
+pub mod Placing

@@ -33,7 +33,7 @@ module _ {A : Type 0} where
   marked_next (x ∷ xs) (false ∷ marks) (suc i) d b l m = marked_next xs marks i d b (omega arith) (omega arith)
 
   -- one more place
-  marked_more : (xs : List A) (marks : List Bool) (i : ℕ) (d : A) (b : Bool) → i < length xs → i < length marks → marked (take (i + 1) xs) marks ≡ marked (take i xs) marks ++ cond (get_or marks i b) (get_or xs i d ∷ []) []
+  pub marked_more : (xs : List A) (marks : List Bool) (i : ℕ) (d : A) (b : Bool) → i < length xs → i < length marks → marked (take (i + 1) xs) marks ≡ marked (take i xs) marks ++ cond (get_or marks i b) (get_or xs i d ∷ []) []
   marked_more xs marks i d b l m =
       let next : i + 1 ≡ suc i = omega arith in
       ap (λ n. marked (take n xs) marks) next ∙ marked_next xs marks i d b l m
@@ -58,7 +58,7 @@ set_long (mark ∷ marks) zero b = refl
 set_long (mark ∷ marks) (suc i) b = omega (arith, set_long marks i b)
 
 module _ {K : Type 0} (R : K → K → Ordering) where
-  Above-marked : (k : K) (xs : List K) (marks : List Bool) → Above R k xs → Above R k (marked xs marks)
+  pub Above-marked : (k : K) (xs : List K) (marks : List Bool) → Above R k xs → Above R k (marked xs marks)
   Above-marked k [] marks h = tt
   Above-marked k (x ∷ xs) [] h = tt
   Above-marked k (x ∷ xs) (true ∷ marks) h = (h.0, Above-marked k xs marks h.1)

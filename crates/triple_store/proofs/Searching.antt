@@ -1,8 +1,7 @@
 -- The counts beside the keys of a rising list.
-use Rattle.std.proofs.Common.{◌≡◌, ℕ, zero, suc, ◌+◌, ◌<◌, ◌≤◌, Bool, true, false, ◌||◌, cond, nat_lt, List, [], ◌∷◌, ◌++◌, length, take, get_or, Less, Ok, Err, Result, Some, is_eq, is_ok, refl, sym, ◌∙◌, ap, arith, append-nil, true≢false}
+use Rattle.std.proofs.Common.{◌≡◌, ℕ, zero, suc, ◌<◌, Bool, true, false, ◌||◌, cond, List, [], ◌∷◌, length, get_or, Less, Ok, Err, Result, Some, is_eq, is_ok, refl, sym, ◌∙◌, ap, arith, true≢false}
 use Rattle.std.specs.Prelude.{slice_get}
 use Rattle.std.specs.List.Sorted.{IsSearchInRange, IsBinarySearchResult}
-use Rattle.std.proofs.lemmas.Bool.Decides.{nat_tests}
 use Rattle.std.proofs.lemmas.Cmp.{tied_itself}
 use Rattle.std.proofs.lemmas.Option.{slice_get-get_or, slice_get_within, get_or_from_slice_get}
 use Rattle.rising.specs.Rising.{Above, IsRising, has}
@@ -10,7 +9,7 @@ use Rattle.rising.proofs.Rising.{turned}
 use Rattle.rising.proofs.Sorting.{found}
 use Rattle.slot_index.specs.declared.key.Key.{Key}
 use Rattle.slot_index.specs.Keys.{key_cmp, key_cmp-IsAntisymmetric, key_cmp-total, same_key}
-use Rattle.triple_store.specs.Times.{count_beside, counted_keys}
+use Rattle.triple_store.specs.Times.{count_beside}
 
 -- ---- what a search over a rising list finds
 
@@ -51,41 +50,3 @@ beside_none (k ∷ keys) (n ∷ counts) key h = at (same_key key k) h (beside_no
 -- by the index that was found
 pub beside_found : (keys : List Key) (counts : List ℕ) (i : ℕ) (key : Key) → IsRising key_cmp keys → length counts ≡ length keys → slice_get keys i ≡ Some key → count_beside keys counts key ≡ get_or counts i 0
 beside_found keys counts i key rises long e = beside_at keys counts i key rises long (slice_get_within keys i key e) (λ other. get_or_from_slice_get keys i key other e)
-
--- ---- the keys whose counts aren't 0, one by one
-
-split_cond : (b : Bool) (k : Key) (xs ys more : List Key) → xs ≡ ys ++ more → cond b (k ∷ xs) xs ≡ cond b (k ∷ ys) ys ++ more
-split_cond true k xs ys more e = ap (λ zs. k ∷ zs) e
-split_cond false k xs ys more e = e
-
-counted_next : (keys : List Key) (counts : List ℕ) (i : ℕ) (d : Key) → i < length keys → i < length counts → counted_keys (take (suc i) keys) counts ≡ counted_keys (take i keys) counts ++ cond (nat_lt 0 (get_or counts i 0)) (get_or keys i d ∷ []) []
-counted_next [] counts i d l m = absurd (omega (arith, l))
-counted_next (k ∷ keys) [] i d l m = absurd (omega (arith, m))
-counted_next (k ∷ keys) (n ∷ counts) zero d l m = refl
-counted_next (k ∷ keys) (n ∷ counts) (suc i) d l m = split_cond (nat_lt 0 n) k _ _ _ (counted_next keys counts i d (omega (arith, l)) (omega (arith, m)))
-
-counted_more : (keys : List Key) (counts : List ℕ) (i : ℕ) (d : Key) → i < length keys → i < length counts → counted_keys (take (i + 1) keys) counts ≡ counted_keys (take i keys) counts ++ cond (nat_lt 0 (get_or counts i 0)) (get_or keys i d ∷ []) []
-counted_more keys counts i d l m =
-    let next : i + 1 ≡ suc i = omega arith in
-    ap (λ n. counted_keys (take n keys) counts) next ∙ counted_next keys counts i d l m
-
-pub push_counted : (keys : List Key) (counts : List ℕ) (i : ℕ) (d : Key) (some new : List Key) → i < length keys → i < length counts → some ≡ counted_keys (take i keys) counts → new ≡ some ++ get_or keys i d ∷ [] → 0 < get_or counts i 0 → new ≡ counted_keys (take (i + 1) keys) counts
-push_counted keys counts i d some new l m so_far pushed is =
-    let test : nat_lt 0 (get_or counts i 0) ≡ true = grind (arith, nat_tests, is) in
-    pushed ∙ ap (λ ks. ks ++ get_or keys i d ∷ []) so_far ∙ sym (counted_more keys counts i d l m ∙ ap (λ t. counted_keys (take i keys) counts ++ cond t (get_or keys i d ∷ []) []) test)
-
-pub pass_counted : (keys : List Key) (counts : List ℕ) (i : ℕ) (some : List Key) → i < length keys → i < length counts → some ≡ counted_keys (take i keys) counts → get_or counts i 0 ≡ 0 → some ≡ counted_keys (take (i + 1) keys) counts
-pass_counted [] counts i some l m so_far is = absurd (omega (arith, l))
-pass_counted (k ∷ keys) counts i some l m so_far is =
-    let test : nat_lt 0 (get_or counts i 0) ≡ false = grind (arith, nat_tests, is) in
-    so_far ∙ sym (counted_more (k ∷ keys) counts i k l m ∙ ap (λ t. counted_keys (take i (k ∷ keys)) counts ++ cond t (get_or (k ∷ keys) i k ∷ []) []) test ∙ append-nil (counted_keys (take i (k ∷ keys)) counts))
-
--- they are no more than all
-pub length-counted : (keys : List Key) (counts : List ℕ) → length (counted_keys keys counts) ≤ length keys
-length-counted [] counts = omega arith
-length-counted (k ∷ keys) [] = omega arith
-length-counted (k ∷ keys) (n ∷ counts) = at (nat_lt 0 n) (length-counted keys counts)
-  where
-    at : (b : Bool) → length (counted_keys keys counts) ≤ length keys → length (cond b (k ∷ counted_keys keys counts) (counted_keys keys counts)) ≤ length (k ∷ keys)
-    at true e = omega (arith, e)
-    at false e = omega (arith, e)

@@ -1,6 +1,6 @@
 // The keys of the triples of one owner.
 
-ghost use Rattle.std.specs.Prelude.{◌≡◌, ◌++◌, [], Some, length, slice_get, IfOk, IfSome};
+ghost use Rattle.std.specs.Prelude.{◌≡◌, ◌++◌, [], Some, length, slice_get, IfOk, IfSome, OnOk};
 ghost use Rattle.rising.specs.Rising.{IsRising, has, sorted};
 ghost use Rattle.slot_index.specs.declared.key.Key.{Key as TheKey};
 ghost use Rattle.slot_index.specs.Keys.{key_cmp};
@@ -19,8 +19,8 @@ pub(crate) const NOWHERE: u32 = u32::MAX;
 /// owner's triples came. The places are a hint that makes an exchange quick, since what stays mostly comes in that order again.
 #[derive(Debug, Drop)]
 pub struct Keys {
-    rising: Vec<Key>,
-    walk: Vec<u32>,
+    pub(crate) rising: Vec<Key>,
+    pub(crate) walk: Vec<u32>,
 }
 
 /// The keys of one owner, borrowed: `rising` has each key once, in rising order, and `walk` the index in it of each triple, in the order in
@@ -57,9 +57,9 @@ impl<'a> KeySlices<'a> {
 
 // The old keys that were met, by marks at their indices, and the keys that were met besides.
 #[derive(Drop)]
-struct Parted {
-    kept: Vec<bool>,
-    rest: Vec<Key>,
+pub(crate) struct Parted {
+    pub(crate) kept: Vec<bool>,
+    pub(crate) rest: Vec<Key>,
 }
 
 // The keys that were met one by one, in order, each once. For each the index among the old keys is told where it was
@@ -205,7 +205,11 @@ fn new_index_of(moved: &[u32], old: Option<&u32>) -> Option<u32> {
 }
 
 // The last index of a key in each bucket, where there were no old keys: these alone are many.
-fn places_of(alloc: Global, old: &[Key], rising: &[Key]) -> Result<Vec<u32>, OutOfMemory> {
+pub(crate) fn places_of(
+    alloc: Global,
+    old: &[Key],
+    rising: &[Key],
+) -> Result<Vec<u32>, OutOfMemory> {
     let mut places = Vec::new(alloc);
     if old.is_empty() {
         places.resize(rising.len().saturating_mul(BUCKETS), NOWHERE)?;
@@ -219,7 +223,7 @@ fn places_of(alloc: Global, old: &[Key], rising: &[Key]) -> Result<Vec<u32>, Out
 }
 
 // The index of a key, which is tried where its bucket tells and else searched.
-fn index_in(rising: &[Key], places: &[u32], key: Key) -> u32
+pub(crate) fn index_in(rising: &[Key], places: &[u32], key: Key) -> u32
     requires { IsRising key_cmp rising.now }
 {
     if let Some(place) = places.get(bucket_of(&key, places.len())) {
@@ -238,7 +242,16 @@ pub(crate) fn narrowed(index: usize) -> u32 {
     u32::try_from(index).unwrap_or(NOWHERE)
 }
 
-// Puts keys in order, each once. It takes no memory.
+// Puts keys in order, each once.
+pub(crate) fn put_in_order(keys: &mut Vec<Key>) -> Result<(), OutOfMemory>
+    ensures { OnOk result (keys.new.items ≡ sorted key_cmp keys.old.items) }
+{
+    keys.sort()?;
+    keys.dedup();
+    Ok(())
+}
+
+// The same without memory.
 fn sort_keys(keys: &mut Vec<Key>)
     ensures { keys.new.items ≡ sorted key_cmp keys.old.items }
 {

@@ -6,7 +6,7 @@
 //! more, all or none, and once less. `keys` has the keys of one owner, in order and as its triples came, and `added` those that an exchange adds. On these `changing` gives a
 //! triple one owner more or less; triple by triple `exchanging` puts the triples of one owner in the place of others, whose keys `finding` finds (`seen` has slots of terms that came a short time ago), `releasing` takes
 //! them away, and `patching` applies a patch. `times` counts how many times each triple of an owner comes; by these counts `parting` takes what is gone out of what an
-//! owner had, while the keys that are left stay (`beside`), and `part_updates` has the store's calls for that. `telling` finds what an exchange changed, in its middle. `rows` finds the triples that agree with a pattern, as slices of their texts, and `ranking` puts all
+//! owner had, while the keys that are left stay (`beside`, `keeping`, `laying`), and `part_updates` has the store's calls for that. `telling` finds what an exchange changed, in its middle. `rows` finds the triples that agree with a pattern, as slices of their texts, and `ranking` puts all
 //! triples in order; `reading` reads triples back from these. `matching` counts the owners of a triple, and `room` says how many terms there are.
 #![tactic(auto)]
 
@@ -17,7 +17,9 @@ mod changing;
 mod exchanging;
 mod finding;
 mod interning;
+mod keeping;
 mod keys;
+mod laying;
 mod matching;
 mod part_updates;
 mod parting;

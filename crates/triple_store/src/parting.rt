@@ -1,6 +1,6 @@
 // Of the triples of one owner some are gone, and others come.
 
-ghost use Rattle.std.specs.Prelude.{◌≡◌, ◌+◌, ◌<◌, ℕ, true, List, get_or, length};
+ghost use Rattle.std.specs.Prelude.{◌≡◌, ◌+◌, ◌<◌, true, List, length};
 ghost use Rattle.std.specs.FinMap as map;
 ghost use Rattle.rising.specs.Rising.{IsRising, has};
 ghost use Rattle.rdf_term.specs.declared.triple.Triple.{Triple};
@@ -10,30 +10,24 @@ ghost use Rattle.triple_store.specs.Costs.{Costs};
 ghost use Rattle.triple_store.specs.PartUpdates.{IsPartsExchange, IsTimedExchange, store_of};
 ghost use Rattle.triple_store.specs.Stored.{AreKeysOf, IsStored, counts_in, is_key};
 ghost use Rattle.triple_store.specs.Telling.{if_told};
-ghost use Rattle.triple_store.specs.Times.{AddKeys, AreTimesOf, Becomes, MovesKeys};
+ghost use Rattle.triple_store.specs.Times.{AddKeys, AreTimesOf, Becomes};
 ghost use Rattle.triple_store.specs.Updates.{AreStored, KeepsRest, MayCome};
 
 use crate::StoreFault;
 use crate::beside::{Beside, Swapped};
 use crate::catalog::Catalog;
 use crate::exchanging::Swap;
+use crate::keeping::Left;
 use crate::keys::KeySlices;
 use crate::part_updates::{PartSwap, TimedExchange};
 use crate::telling::Telling;
-use crate::times::{add_keys, copied, moved_counts, no_counts, staying};
+use crate::times::{add_keys, copied, no_counts};
 use block_index::Steps;
 use slot_index::Key;
 use std::alloc::Global;
 use std::sync::ledger::Ledger;
 use text_region::Region;
 use triple_texts::TripleTexts;
-
-// The keys that an owner had, and what is left of their counts.
-#[derive(Clone, Copy)]
-pub(crate) struct Left<'a> {
-    pub(crate) keys: &'a [Key],
-    pub(crate) counts: &'a [u16],
-}
 
 impl Catalog {
     // Takes what is gone out of what the owner had, and takes in what comes. `None`, with nothing changed, where what is gone isn't among
@@ -53,27 +47,28 @@ impl Catalog {
         ensures rest { KeepsRest (store_of self.old region.old) (store_of self.new region.new) }
         ensures cost { (before after : List Triple) → AreTimesOf self.old region.old swap.entry.keys.rising.now swap.entry.times.now before → Becomes before after swap.entry.gone.now swap.entry.come.now → Costs (map.len (counts_in self.old region.old)) (map.len (counts_in self.new region.new)) (length after) (if_told telling (length after + length swap.entry.keys.rising.now) + (length after + length swap.entry.keys.rising.now)) steps.old steps.new }
     {
-        let old = swap.keys.rising;
         let Ok(times) = copied(self.alloc, swap.times) else {
             return Err(StoreFault::OutOfMemory);
         };
         let Some(left) = self.less_times(region, swap.keys, times, swap.gone) else {
             return Ok(None);
         };
-        let Ok(stays) = staying(self.alloc, old, left.as_slice()) else {
-            return Err(StoreFault::OutOfMemory);
+        let counts = left.as_slice();
+        let left = Left {
+            keys: swap.keys,
+            counts,
         };
-        let beside = Beside {
-            old: swap.keys,
-            stays: stays.keys.as_slice(),
-            stay_indices: stays.indices.as_slice(),
-            new: swap.come,
-        };
-        match self.exchange_beside(region, beside, telling, steps) {
-            Ok(Swapped { keys, change, met }) => {
-                let counts = left.as_slice();
-                let left = Left { keys: old, counts };
-                let times = times_beside(self.alloc, left, keys.slices(), met.keys.as_slice());
+        let new = swap.come;
+        match self.exchange_beside(region, Beside { left, new }, telling, steps) {
+            Ok(
+                Swapped {
+                    keys,
+                    counts,
+                    change,
+                    met,
+                },
+            ) => {
+                let times = times_after(self.alloc, keys.slices(), counts, met.keys.as_slice());
                 Ok(Some(TimedExchange {
                     keys,
                     times,
@@ -100,15 +95,21 @@ impl Catalog {
         ensures cost { Costs (map.len (counts_in self.old region.old)) (map.len (counts_in self.new region.new)) (length swap.entry.new.now) (if_told telling (length swap.entry.new.now + length swap.entry.old.rising.now) + (length swap.entry.new.now + length swap.entry.old.rising.now)) steps.old steps.new }
     {
         let Swap { old, new } = swap;
-        let beside = Beside {
-            old,
-            stays: &[],
-            stay_indices: &[],
-            new,
+        let Ok(none) = no_counts(self.alloc, old.rising.len()) else {
+            return Err(StoreFault::OutOfMemory);
         };
-        match self.exchange_beside(region, beside, telling, steps) {
-            Ok(Swapped { keys, change, met }) => {
-                let times = times_met(self.alloc, keys.slices(), met.keys.as_slice());
+        let counts = none.as_slice();
+        let left = Left { keys: old, counts };
+        match self.exchange_beside(region, Beside { left, new }, telling, steps) {
+            Ok(
+                Swapped {
+                    keys,
+                    counts,
+                    change,
+                    met,
+                },
+            ) => {
+                let times = times_after(self.alloc, keys.slices(), counts, met.keys.as_slice());
                 Ok(TimedExchange {
                     keys,
                     times,
@@ -140,31 +141,12 @@ impl Catalog {
     }
 }
 
-// The times of new keys: what is left of their counts, and once more for each time that they were met. Empty where one would be too large,
-// or memory is refused.
-fn times_beside(alloc: Global, left: Left<'_>, new: KeySlices<'_>, met: &[Key]) -> Vec<u16>
-    requires rising { IsRising key_cmp left.keys.now }
-    requires as_many { length left.counts.now ≡ length left.keys.now }
-    requires rising_new { IsRising key_cmp new.rising.now }
-    ensures { 0 < length result.items → MovesKeys left.entry.keys.now left.entry.counts.now new.entry.rising.now result.items met.now }
+// The times of keys: the counts that they begin with, and once more for each time that they were met. Empty where one would be too large.
+fn times_after(alloc: Global, keys: KeySlices<'_>, counts: Vec<u16>, met: &[Key]) -> Vec<u16>
+    requires rising { IsRising key_cmp keys.rising.now }
+    requires as_many { length counts.items ≡ length keys.rising.now }
+    ensures { 0 < length result.items → AddKeys keys.entry.rising.now counts.items result.items met.now }
 {
-    let Ok(moved) = moved_counts(alloc, left.keys, left.counts, new.rising) else {
-        return Vec::new(alloc);
-    };
-    match add_keys(new, moved, met) {
-        Some(times) => times,
-        None => Vec::new(alloc),
-    }
-}
-
-// The times of keys that were met one by one. Empty where one would be too large, or memory is refused.
-fn times_met(alloc: Global, keys: KeySlices<'_>, met: &[Key]) -> Vec<u16>
-    requires { IsRising key_cmp keys.rising.now }
-    ensures { 0 < length result.items → ((zeros : List ℕ) × (length zeros ≡ length keys.entry.rising.now) × ((index : ℕ) → get_or zeros index 0 ≡ 0) × AddKeys keys.entry.rising.now zeros result.items met.now) }
-{
-    let Ok(counts) = no_counts(alloc, keys.rising.len()) else {
-        return Vec::new(alloc);
-    };
     match add_keys(keys, counts, met) {
         Some(times) => times,
         None => Vec::new(alloc),

@@ -1,15 +1,15 @@
 // How many times each triple of one owner comes.
 
-ghost use Rattle.std.specs.Prelude.{◌≡◌, ◌<◌, ℕ, true, false, length, get_or, replicate, slice_get, Some, IfNone, IfSome, IfOk};
+ghost use Rattle.std.specs.Prelude.{◌≡◌, ◌<◌, true, false, length, get_or, replicate, slice_get, Some, IfNone, IfSome, IfOk};
 ghost use Rattle.rising.specs.Rising.{IsRising, has};
 ghost use Rattle.slot_index.specs.declared.key.Key.{Key as TheKey};
 ghost use Rattle.slot_index.specs.Keys.{key_cmp};
 ghost use Rattle.triple_store.specs.Slots.{HasTexts};
 ghost use Rattle.triple_store.specs.Stored.{IsStored, is_key};
-ghost use Rattle.triple_store.specs.Times.{AddKeys, AddTimes, count_beside, counted_keys};
+ghost use Rattle.triple_store.specs.Times.{AddKeys, AddTimes};
 
 use crate::catalog::Catalog;
-use crate::keys::{KeySlices, narrowed};
+use crate::keys::KeySlices;
 use rdf_term::OutOfMemory;
 use slot_index::Key;
 use std::alloc::Global;
@@ -112,7 +112,7 @@ fn hinted(keys: KeySlices<'_>, place: usize) -> Option<usize>
 }
 
 // The index of a key in a rising list. The index that is tried first saves the search where it is right.
-fn index_from(keys: &[Key], key: Key, first: usize) -> Option<usize>
+pub(crate) fn index_from(keys: &[Key], key: Key, first: usize) -> Option<usize>
     requires { IsRising key_cmp keys.now }
     ensures found { IfSome result (λ index. slice_get keys.now index ≡ Some key) }
     ensures none { IfNone result (has key_cmp key keys.now ≡ false) }
@@ -140,66 +140,6 @@ pub(crate) fn add_keys(keys: KeySlices<'_>, counts: Vec<u16>, met: &[Key]) -> Op
         counts[at] = counts[at].checked_add(1)?;
     }
     Some(counts)
-}
-
-// The counts of the new keys: those that they had among the old ones.
-pub(crate) fn moved_counts(
-    alloc: Global,
-    old: &[Key],
-    counts: &[u16],
-    new: &[Key],
-) -> Result<Vec<u16>, OutOfMemory>
-    requires rising { IsRising key_cmp old.now }
-    requires as_many { length counts.now ≡ length old.now }
-    ensures as_many { IfOk result (λ moved. length moved.items ≡ length new.now) }
-    ensures counts { IfOk result (λ moved. (index : ℕ) (other : TheKey) → index < length new.now → get_or moved.items index 0 ≡ count_beside old.now counts.now (get_or new.now index other)) }
-{
-    let mut moved = Vec::with_capacity(alloc, new.len())?;
-    let mut next = 0;
-    for key in new {
-        let (count, behind) = count_from(old, counts, *key, next);
-        moved.push(count)?;
-        next = behind;
-    }
-    Ok(moved)
-}
-
-// The count beside a key, and the index behind it, where the next key mostly stands. An index is tried first.
-fn count_from(keys: &[Key], counts: &[u16], key: Key, first: usize) -> (u16, usize)
-    requires rising { IsRising key_cmp keys.now }
-    requires as_many { length counts.now ≡ length keys.now }
-    ensures { result.0 ≡ count_beside keys.now counts.now key }
-{
-    match index_from(keys, key, first) {
-        Some(index) => (counts[index], index.saturating_add(1)),
-        None => (0, first),
-    }
-}
-
-// Keys that stay, and their indices.
-#[derive(Drop)]
-pub(crate) struct Stays {
-    pub(crate) keys: Vec<Key>,
-    pub(crate) indices: Vec<u32>,
-}
-
-// The keys whose counts aren't 0.
-pub(crate) fn staying(alloc: Global, keys: &[Key], counts: &[u16]) -> Result<Stays, OutOfMemory>
-    requires { length counts.now ≡ length keys.now }
-    ensures { IfOk result (λ stays. stays.keys.items ≡ counted_keys keys.now counts.now) }
-{
-    let mut stays = Vec::with_capacity(alloc, keys.len())?;
-    let mut indices = Vec::with_capacity(alloc, keys.len())?;
-    for (index, key) in keys.iter().enumerate() {
-        if counts[index] != 0 {
-            stays.push(*key)?;
-            indices.push(narrowed(index))?;
-        }
-    }
-    Ok(Stays {
-        keys: stays,
-        indices,
-    })
 }
 
 // As many counts of 0.

@@ -1,39 +1,60 @@
 -- No key stays, and what comes is all that the owner has.
-use Rattle.std.proofs.Common.{[], length, arith}
+use Rattle.std.proofs.Common.{List, [], length, subst, sym, ap, ◌∙◌, arith}
+use Rattle.std.proofs.lemmas.List.{length-map, length-replicate}
+use Rattle.slot_index.specs.declared.key.Key.{Key}
+use Rattle.triple_store.specs.Parts.{StandFor}
+use Rattle.triple_store.specs.Times.{count_beside, counted_keys}
 use Rattle.triple_store.proofs.Afterwards.{times_by_keys}
 use Rattle.triple_store.proofs.Multitude.{cost_of_all}
 use Rattle.triple_store.proofs.Parts.{stand_nothing}
 use Rattle.triple_store.proofs.Rooming.{same_fault}
+use Rattle.triple_store.proofs.Staying.{counted_zeros, none_beside, zero_counts}
 use Rattle.triple_store.proofs.catalog.Catalog.exchange_timed.Goals as goal
 
-pub times_met-times-requires : goal.times_met-times-requires
-times_met-times-requires g c =
-    let are = c.in-Ok.ensures.keys [] (stand_nothing _ _) in
+pub exchange_beside-requires-clause-as_many : goal.exchange_beside-requires-clause-as_many
+exchange_beside-requires-clause-as_many g c = ap length (c.as_slice-counts.ensures.value ∙ c.in-Ok.ensures) ∙ length-replicate _ 0
+
+pub times_after-times-requires-clause-rising : goal.times_after-times-requires-clause-rising
+times_after-times-requires-clause-rising g c =
+    let had = c.args.swap.old.rising.now in
+    let nothing = counted_zeros had _ c.as_slice-counts.result.now (c.as_slice-counts.ensures.value ∙ c.in-Ok.ensures) in
+    let none = subst (λ (keys : List Key). StandFor c.args.self.now c.args.region.now keys []) (sym nothing) (stand_nothing c.args.self.now c.args.region.now) in
+    let are = c.in-Ok-exchange_beside.ensures.keys [] none in
     rw c.slices.ensures are.rising
 
-pub returns-in-Ok-clause-exchanged : goal.returns-in-Ok-clause-exchanged
-returns-in-Ok-clause-exchanged g c =
-    let none = stand_nothing c.args.self.now c.args.region.now in
-    let are = c.in-Ok.ensures.keys [] none in
-    let known = rw (c.slices.ensures, c.as_slice.ensures.value) at c.times_met-times.ensures in
+pub times_after-times-requires-clause-as_many : goal.times_after-times-requires-clause-as_many
+times_after-times-requires-clause-as_many g c = ap length c.in-Ok-exchange_beside.ensures.counts ∙ length-map c.in-Ok-exchange_beside.field-0.keys.rising.items (count_beside c.args.swap.old.rising.now c.as_slice-counts.result.now) ∙ sym (ap length c.slices.ensures)
+
+pub returns-in-Ok-exchange_beside-clause-exchanged : goal.returns-in-Ok-exchange_beside-clause-exchanged
+returns-in-Ok-exchange_beside-clause-exchanged g c =
+    let had = c.args.swap.old.rising.now in
+    let nothing = counted_zeros had _ c.as_slice-counts.result.now (c.as_slice-counts.ensures.value ∙ c.in-Ok.ensures) in
+    let none = subst (λ (keys : List Key). StandFor c.args.self.now c.args.region.now keys []) (sym nothing) (stand_nothing c.args.self.now c.args.region.now) in
+    let are = c.in-Ok-exchange_beside.ensures.keys [] none in
+    let known = rw (c.slices.ensures, c.as_slice.ensures.value) at c.times_after-times.ensures in
+    let zeros = zero_counts (count_beside had c.as_slice-counts.result.now) (none_beside had _ c.as_slice-counts.result.now (c.as_slice-counts.ensures.value ∙ c.in-Ok.ensures)) c.in-Ok-exchange_beside.field-0.keys.rising.items _ c.in-Ok-exchange_beside.ensures.counts in
+    let as_many = ap length c.in-Ok-exchange_beside.ensures.counts ∙ length-map c.in-Ok-exchange_beside.field-0.keys.rising.items (count_beside had c.as_slice-counts.result.now) in
     record {
-      ok = λ gone its. c.in-Ok.ensures.ok gone [] its none;
-      told = c.in-Ok.ensures.told;
+      ok = λ gone its. c.in-Ok-exchange_beside.ensures.ok gone [] its none;
+      told = c.in-Ok-exchange_beside.ensures.told;
       err = tt;
       keys = are;
-      times = λ some.
-          let zeros = known some in
-          times_by_keys _ _ _ zeros.0 _ _ _ c.in-Ok.ensures.stored are c.in-Ok.ensures.met c.in-Ok.ensures.along zeros.1 zeros.2 zeros.3;
+      times = λ some. times_by_keys _ _ _ _ _ _ _ c.in-Ok-exchange_beside.ensures.stored are c.in-Ok-exchange_beside.ensures.met c.in-Ok-exchange_beside.ensures.along as_many zeros (known some);
       full = λ e. absurd cc;
-      within = c.in-Ok.ensures.within [] none;
+      within = c.in-Ok-exchange_beside.ensures.within [] none;
     }
 
-pub returns-in-Ok-clause-cost : goal.returns-in-Ok-clause-cost
-returns-in-Ok-clause-cost g c = cost_of_all c.args.telling _ _ (length c.args.swap.new.now) 0 (length c.args.swap.old.rising.now) (length c.args.swap.new.now) _ _ (omega arith) c.in-Ok.ensures.cost
+pub returns-in-Ok-exchange_beside-clause-cost : goal.returns-in-Ok-exchange_beside-clause-cost
+returns-in-Ok-exchange_beside-clause-cost g c =
+    let had = c.args.swap.old.rising.now in
+    let nothing = counted_zeros had _ c.as_slice-counts.result.now (c.as_slice-counts.ensures.value ∙ c.in-Ok.ensures) in
+    cost_of_all c.args.telling _ _ (length c.args.swap.new.now) (length (counted_keys had c.as_slice-counts.result.now)) (length had) (length c.args.swap.new.now) _ _ (omega (arith, ap length nothing)) c.in-Ok-exchange_beside.ensures.cost
 
-pub returns-in-Err-clause-exchanged : goal.returns-in-Err-clause-exchanged
-returns-in-Err-clause-exchanged g c =
-    let none = stand_nothing c.args.self.now c.args.region.now in
+pub returns-clause-exchanged : goal.returns-clause-exchanged
+returns-clause-exchanged g c =
+    let had = c.args.swap.old.rising.now in
+    let nothing = counted_zeros had _ c.as_slice-counts.result.now (c.as_slice-counts.ensures.value ∙ c.in-Ok.ensures) in
+    let none = subst (λ (keys : List Key). StandFor c.args.self.now c.args.region.now keys []) (sym nothing) (stand_nothing c.args.self.now c.args.region.now) in
     record {
       ok = tt;
       told = tt;
@@ -44,5 +65,8 @@ returns-in-Err-clause-exchanged g c =
       within = tt;
     }
 
-pub returns-in-Err-clause-cost : goal.returns-in-Err-clause-cost
-returns-in-Err-clause-cost g c = cost_of_all c.args.telling _ _ (length c.args.swap.new.now) 0 (length c.args.swap.old.rising.now) (length c.args.swap.new.now) _ _ (omega arith) c.in-Err.ensures.cost
+pub returns-clause-cost : goal.returns-clause-cost
+returns-clause-cost g c =
+    let had = c.args.swap.old.rising.now in
+    let nothing = counted_zeros had _ c.as_slice-counts.result.now (c.as_slice-counts.ensures.value ∙ c.in-Ok.ensures) in
+    cost_of_all c.args.telling _ _ (length c.args.swap.new.now) (length (counted_keys had c.as_slice-counts.result.now)) (length had) (length c.args.swap.new.now) _ _ (omega (arith, ap length nothing)) c.in-Err.ensures.cost

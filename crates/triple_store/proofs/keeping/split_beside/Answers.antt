@@ -1,0 +1,34 @@
+use Rattle.std.proofs.Common.{◌<◌, true, length, ◌∙◌, arith}
+use Rattle.std.proofs.lemmas.Option.{slice_get_within}
+use Rattle.triple_store.specs.Keys.{marked}
+use Rattle.triple_store.proofs.Marked.{set_long}
+use Rattle.triple_store.proofs.Staying.{apart_more, beside_kept, beside_none_met, beside_rest, nothing_apart}
+use Rattle.triple_store.proofs.keeping.split_beside.Goals as goal
+use Rattle.triple_store.proofs.keeping.split_beside.Goals.{in-Some, in-None+in_ok-push-in-None}
+
+pub loop-index-init : goal.loop-index-init
+loop-index-init c = record {
+  len = c.requires.as_many;
+  same = beside_none_met c.args.old.now c.args.met.now c.args.marks.items _ c.in_ok-rest.ensures.items;
+  apart = nothing_apart c.args.old.now _ c.in_ok-rest.ensures.items;
+}
+
+pub index_mut-requires : goal.index_mut-requires
+index_mut-requires c =
+    let low : c.in-Some.old_index < length c.args.old.now = slice_get_within c.args.old.now c.in-Some.old_index _ c.in-Some.ensures.found in
+    omega (arith, low, c.loop-index.invariant.len)
+
+pub loop-index-preserved : goal.loop-index-preserved
+loop-index-preserved c =
+    elim c.match-index_from.branch [
+      | in-Some w ↦ rw (w.kept-is, w.rest-is) (record {
+        len = set_long c.loop-index.kept.items w.in-Some.old_index true ∙ c.loop-index.invariant.len;
+        same = beside_kept c.args.old.now c.args.met.now (marked c.args.old.now c.args.marks.items) c.loop-index.kept.items c.loop-index.rest.items c.loop-index.index _ c.loop-index-test.true c.loop-index.invariant.same w.in-Some.old_index c.loop-index.invariant.len w.in-Some.ensures.found;
+        apart = c.loop-index.invariant.apart;
+      })
+      | in-None+in_ok-push-in-None w ↦ rw (w.kept-is, w.rest-is) (record {
+        len = c.loop-index.invariant.len;
+        same = rw w.in_ok-push-in-None.ensures.items (beside_rest c.args.old.now c.args.met.now (marked c.args.old.now c.args.marks.items) c.loop-index.kept.items c.loop-index.rest.items c.loop-index.index _ c.loop-index-test.true c.loop-index.invariant.same);
+        apart = rw w.in_ok-push-in-None.ensures.items (apart_more c.args.old.now c.loop-index.rest.items _ w.in-None.ensures.none c.loop-index.invariant.apart);
+      })
+    ]

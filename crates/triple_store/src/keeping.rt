@@ -1,0 +1,164 @@
+// Keys that stay, in one list with those that were met.
+
+ghost use Rattle.std.specs.Prelude.{◌≡◌, ◌++◌, ◌≤◌, true, false, length, nat_lt, IfOk};
+ghost use Rattle.std.specs.Prelude.{map as mapped};
+ghost use Rattle.rising.specs.Rising.{IsRising, difference, has, sorted};
+ghost use Rattle.slot_index.specs.declared.key.Key.{Key as TheKey};
+ghost use Rattle.slot_index.specs.Keys.{key_cmp};
+ghost use Rattle.triple_store.specs.Keys.{marked};
+ghost use Rattle.triple_store.specs.Times.{count_beside, counted_keys};
+
+use crate::exchanging::Met;
+use crate::keys::{KeySlices, Keys, NOWHERE, Parted, index_in, places_of, put_in_order};
+use crate::laying::{Laid, Sources, laid_in_one};
+use crate::times::index_from;
+use rdf_term::OutOfMemory;
+use slot_index::Key;
+use std::alloc::Global;
+
+// The keys that an owner had, and what is left of their counts: a key with a count stays.
+#[derive(Clone, Copy)]
+pub(crate) struct Left<'a> {
+    pub(crate) keys: KeySlices<'a>,
+    pub(crate) counts: &'a [u16],
+}
+
+// The keys that an owner has from now on, what is left of the count of each, and the old keys that are gone.
+#[derive(Drop)]
+pub(crate) struct KeysBeside {
+    pub(crate) keys: Keys,
+    pub(crate) counts: Vec<u16>,
+    pub(crate) gone: Vec<Key>,
+}
+
+// The keys that were met and those that stay, in order, each once. What stays needs no look-up, no search and no sorting.
+pub(crate) fn keys_beside(
+    alloc: Global,
+    left: Left<'_>,
+    met: &Met,
+) -> Result<KeysBeside, OutOfMemory>
+    requires rising { IsRising key_cmp left.keys.rising.now }
+    requires as_many { length left.counts.now ≡ length left.keys.rising.now }
+    ensures keys { IfOk result (λ done. done.keys.rising.items ≡ sorted key_cmp (met.now.keys.items ++ counted_keys left.entry.keys.rising.now left.entry.counts.now)) }
+    ensures counts { IfOk result (λ done. done.counts.items ≡ mapped (count_beside left.entry.keys.rising.now left.entry.counts.now) done.keys.rising.items) }
+    ensures rising { IfOk result (λ done. IsRising key_cmp done.gone.items) }
+    ensures had { IfOk result (λ done. (key : TheKey) → has key_cmp key done.gone.items ≡ true → has key_cmp key left.entry.keys.rising.now ≡ true) }
+    ensures few { IfOk result (λ done. length done.gone.items ≤ length left.entry.keys.rising.now) }
+    ensures gone { IfOk result (λ done. difference key_cmp done.gone.items done.keys.rising.items ≡ difference key_cmp left.entry.keys.rising.now done.keys.rising.items) }
+{
+    let old = left.keys.rising;
+    let marks = marks_of(alloc, left.counts)?;
+    let parted = split_beside(
+        alloc,
+        old,
+        marks,
+        met.keys.as_slice(),
+        met.old_indices.as_slice(),
+    )?;
+    let Parted { kept, rest } = parted;
+    let mut others = rest;
+    put_in_order(&mut others)?;
+    let sources = Sources {
+        old,
+        counts: left.counts,
+        stays: kept.as_slice(),
+        others: others.as_slice(),
+    };
+    let laid = laid_in_one(alloc, sources)?;
+    let Laid {
+        keys,
+        counts,
+        gone,
+        moved,
+    } = laid;
+    let walk = walk_beside(alloc, left.keys, met, keys.as_slice(), moved)?;
+    Ok(KeysBeside {
+        keys: Keys { rising: keys, walk },
+        counts,
+        gone,
+    })
+}
+
+// The old keys that are marked or were met, by marks, and all other keys that were met.
+fn split_beside(
+    alloc: Global,
+    old: &[Key],
+    marks: Vec<bool>,
+    met: &[Key],
+    old_indices: &[u32],
+) -> Result<Parted, OutOfMemory>
+    requires rising { IsRising key_cmp old.now }
+    requires as_many { length marks.items ≡ length old.now }
+    ensures len { IfOk result (λ parted. length parted.kept.items ≡ length old.now) }
+    ensures same { IfOk result (λ parted. (key : TheKey) → has key_cmp key (marked old.now parted.kept.items ++ parted.rest.items) ≡ has key_cmp key (met.now ++ marked old.now marks.items)) }
+    ensures apart { IfOk result (λ parted. (key : TheKey) → has key_cmp key old.now ≡ true → has key_cmp key parted.rest.items ≡ false) }
+{
+    let mut kept = marks;
+    let mut rest = Vec::with_capacity(alloc, met.len())?;
+    for (index, key) in met.iter().enumerate() {
+        let first = told_index(old_indices.get(index));
+        match index_from(old, *key, first) {
+            Some(old_index) => kept[old_index] = true,
+            None => rest.push(*key)?,
+        }
+    }
+    Ok(Parted { kept, rest })
+}
+
+// The index that a hint tells.
+fn told_index(hint: Option<&u32>) -> usize {
+    match hint {
+        Some(index) => *index as usize,
+        None => 0,
+    }
+}
+
+// Which counts aren't 0.
+fn marks_of(alloc: Global, counts: &[u16]) -> Result<Vec<bool>, OutOfMemory>
+    ensures { IfOk result (λ marks. marks.items ≡ mapped (nat_lt 0) counts.now) }
+{
+    let mut marks = Vec::with_capacity(alloc, counts.len())?;
+    for count in counts {
+        marks.push(0 < *count)?;
+    }
+    Ok(marks)
+}
+
+// The indices of the keys in the order in which they were met, and then those of the keys that stay, in the order of the walk before.
+fn walk_beside(
+    alloc: Global,
+    old: KeySlices<'_>,
+    met: &Met,
+    rising: &[Key],
+    moved: Vec<u32>,
+) -> Result<Vec<u32>, OutOfMemory>
+    requires { IsRising key_cmp rising.now }
+{
+    let mut moved = moved;
+    let places = places_of(alloc, old.rising, rising)?;
+    let mut walk = Vec::with_capacity(alloc, rising.len().max(met.keys.len()))?;
+    for (index, key) in met.keys.iter().enumerate() {
+        let new_index = match taken_index(&mut moved, met.old_indices.get(index)) {
+            Some(new_index) => new_index,
+            None => index_in(rising, places.as_slice(), *key),
+        };
+        walk.push(new_index)?;
+    }
+    for index in old.walk {
+        if let Some(new_index) = taken_index(&mut moved, Some(index)) {
+            walk.push(new_index)?;
+        }
+    }
+    Ok(walk)
+}
+
+// The new index of an old key that stays. It is given once, so that a walk doesn't grow without end.
+fn taken_index(moved: &mut Vec<u32>, old: Option<&u32>) -> Option<u32> {
+    let index = moved.get_mut(*old? as usize)?;
+    if *index == NOWHERE {
+        return None;
+    }
+    let taken = *index;
+    *index = NOWHERE;
+    Some(taken)
+}
