@@ -10,6 +10,8 @@ mod laws;
 mod placing;
 mod split;
 
+/// Which graph a document goes to.
+pub use graph_routes::{Routes, route};
 pub use laws::{graphs_are_the_union, graphs_follow_the_records, graphs_need_no_more_room};
 pub use split::Split;
 /// Why a graph takes no triples: the limit on distinct terms is reached, or memory was refused.
