@@ -45,6 +45,10 @@ datatype_triples entity (Some datatype) = type_triples entity datatype
 abbrev pub predicate_triple : EntityId → Predicate → Prefix → Triple
 predicate_triple x predicate prefix = about (entity_term x) predicate (id_term prefix x)
 
+-- the property as a predicate of each of the namespaces
+abbrev pub predicate_triples : EntityId → List (Predicate × Prefix) → List Triple
+predicate_triples x predicates = flat_map (λ p. predicate_triple x p.0 p.1 ∷ []) predicates
+
 abbrev pub value_predicates : EntityId → List Triple
 value_predicates x =
     predicate_triple x Say.DirectClaim Wdt

@@ -6,13 +6,26 @@ ghost use Rattle.std.specs.List.{flat_map, list_all, slice_split};
 ghost use Rattle.rdf_term.specs.Grammar.{is_word};
 ghost use Rattle.triple_sink.specs.Gains.{Gains, KeepsFront};
 ghost use Rattle.triple_sink.specs.TermRef.{meant};
-ghost use Rattle.entity_rdf.specs.Property.{capitalized, datatype_triples, is_datatype_char, is_hyphen, other_predicates, predicate_triple, property_triples, type_name, value_predicates};
+ghost use Rattle.entity_rdf.specs.Property.{capitalized, datatype_triples, is_datatype_char, is_hyphen, predicate_triple, predicate_triples, property_triples, type_name};
 
 use entity_model::{EntityId, IdKind};
 use rdf_term::{CowText, OutOfMemory};
 use rdf_vocabulary::{Predicate, Prefix};
 use std::alloc::Global;
 use triple_sink::{Setting, TermRef, TripleSink, emit_about};
+
+/// The predicates that a page says of a property, each with the namespace in which the property is that predicate.
+const PREDICATES: [(Predicate, Prefix); 9] = [
+    (Predicate::DirectClaim, Prefix::Wdt),
+    (Predicate::Claim, Prefix::P),
+    (Predicate::StatementProperty, Prefix::Ps),
+    (Predicate::StatementValue, Prefix::Psv),
+    (Predicate::Qualifier, Prefix::Pq),
+    (Predicate::QualifierValue, Prefix::Pqv),
+    (Predicate::Reference, Prefix::Pr),
+    (Predicate::ReferenceValue, Prefix::Prv),
+    (Predicate::Novalue, Prefix::Wdno),
+];
 
 // Whether letters, digits and hyphens alone make the datatype.
 pub(crate) fn has_type(datatype: &[u8]) -> bool
@@ -120,33 +133,20 @@ fn emit_predicate<S: TripleSink>(
     )
 }
 
-fn emit_value_predicates<S: TripleSink>(
+// Emits the property as a predicate of each of the namespaces.
+fn emit_predicates<S: TripleSink>(
     setting: Setting,
     id: EntityId,
+    predicates: &[(Predicate, Prefix)],
     out: &mut S,
 ) -> Result<(), OutOfMemory>
-    ensures gains { OnOk result (Gains S.items S.keeps out.old out.new (value_predicates id)) }
+    ensures gains { OnOk result (Gains S.items S.keeps out.old out.new (predicate_triples id predicates.now)) }
     ensures front { KeepsFront S.items out.old out.new }
 {
-    emit_predicate(setting, id, Predicate::DirectClaim, Prefix::Wdt, out)?;
-    emit_predicate(setting, id, Predicate::Claim, Prefix::P, out)?;
-    emit_predicate(setting, id, Predicate::StatementProperty, Prefix::Ps, out)?;
-    emit_predicate(setting, id, Predicate::StatementValue, Prefix::Psv, out)
-}
-
-fn emit_other_predicates<S: TripleSink>(
-    setting: Setting,
-    id: EntityId,
-    out: &mut S,
-) -> Result<(), OutOfMemory>
-    ensures gains { OnOk result (Gains S.items S.keeps out.old out.new (other_predicates id)) }
-    ensures front { KeepsFront S.items out.old out.new }
-{
-    emit_predicate(setting, id, Predicate::Qualifier, Prefix::Pq, out)?;
-    emit_predicate(setting, id, Predicate::QualifierValue, Prefix::Pqv, out)?;
-    emit_predicate(setting, id, Predicate::Reference, Prefix::Pr, out)?;
-    emit_predicate(setting, id, Predicate::ReferenceValue, Prefix::Prv, out)?;
-    emit_predicate(setting, id, Predicate::Novalue, Prefix::Wdno, out)
+    for said in predicates {
+        emit_predicate(setting, id, said.0, said.1, out)?;
+    }
+    Ok(())
 }
 
 /// Emits what the page of a property says of its predicates. The page of an item or a lexeme says nothing of them.
@@ -163,8 +163,7 @@ pub(crate) fn emit_property<S: TripleSink>(
         IdKind::P => {
             let entity = TermRef::Id(Prefix::Wd, id);
             emit_datatype(setting, &entity, datatype, out)?;
-            emit_value_predicates(setting, id, out)?;
-            emit_other_predicates(setting, id, out)
+            emit_predicates(setting, id, &PREDICATES, out)
         }
         IdKind::Q | IdKind::L => Ok(()),
     }
