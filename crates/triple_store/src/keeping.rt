@@ -9,7 +9,7 @@ ghost use Rattle.triple_store.specs.Keys.{marked};
 ghost use Rattle.triple_store.specs.Times.{count_beside, counted_keys};
 
 use crate::exchanging::Met;
-use crate::keys::{KeySlices, Keys, NOWHERE, Parted, index_in, places_of, put_in_order};
+use crate::keys::{KeySlices, Keys, NOWHERE, Parted, index_in, places_of, put_in_order, put_last};
 use crate::laying::{Laid, Sources, laid_in_one};
 use crate::times::index_from;
 use rdf_term::OutOfMemory;
@@ -71,7 +71,10 @@ pub(crate) fn keys_beside(
         gone,
         moved,
     } = laid;
-    let walk = walk_beside(alloc, left.keys, met, keys.as_slice(), moved)?;
+    let walk = match walk_beside(alloc, left.keys, met, keys.as_slice(), moved) {
+        Ok(walk) => walk,
+        Err(_) => Vec::new(alloc),
+    };
     Ok(KeysBeside {
         keys: Keys { rising: keys, walk },
         counts,
@@ -99,7 +102,7 @@ fn split_beside(
         let first = told_index(old_indices.get(index));
         match index_from(old, *key, first) {
             Some(old_index) => kept[old_index] = true,
-            None => rest.push(*key)?,
+            None => put_last(&mut rest, *key)?,
         }
     }
     Ok(Parted { kept, rest })
@@ -119,7 +122,7 @@ fn marks_of(alloc: Global, counts: &[u16]) -> Result<Vec<bool>, OutOfMemory>
 {
     let mut marks = Vec::with_capacity(alloc, counts.len())?;
     for count in counts {
-        marks.push(0 < *count)?;
+        put_last(&mut marks, 0 < *count)?;
     }
     Ok(marks)
 }
@@ -142,11 +145,11 @@ fn walk_beside(
             Some(new_index) => new_index,
             None => index_in(rising, places.as_slice(), *key),
         };
-        walk.push(new_index)?;
+        put_last(&mut walk, new_index)?;
     }
     for index in old.walk {
         if let Some(new_index) = taken_index(&mut moved, Some(index)) {
-            walk.push(new_index)?;
+            put_last(&mut walk, new_index)?;
         }
     }
     Ok(walk)

@@ -1,6 +1,6 @@
 // The keys of the triples of one owner.
 
-ghost use Rattle.std.specs.Prelude.{◌≡◌, ◌++◌, [], Some, length, slice_get, IfOk, IfSome, OnOk};
+ghost use Rattle.std.specs.Prelude.{◌≡◌, ◌++◌, ◌∷◌, [], Some, length, slice_get, IfOk, IfSome, OnOk};
 ghost use Rattle.rising.specs.Rising.{IsRising, has, sorted};
 ghost use Rattle.slot_index.specs.declared.key.Key.{Key as TheKey};
 ghost use Rattle.slot_index.specs.Keys.{key_cmp};
@@ -240,6 +240,18 @@ pub(crate) fn index_in(rising: &[Key], places: &[u32], key: Key) -> u32
 // The index as a hint has it.
 pub(crate) fn narrowed(index: usize) -> u32 {
     u32::try_from(index).unwrap_or(NOWHERE)
+}
+
+// Puts an element at the end. Where there is room for it, this is the whole work.
+pub(crate) fn put_last<T: Copy>(list: &mut Vec<T>, element: T) -> Result<(), OutOfMemory>
+    ensures { OnOk result (list.new.items ≡ list.old.items ++ element ∷ []) }
+{
+    if list.len() < list.capacity() {
+        list.push_reserved(element);
+        return Ok(());
+    }
+    list.push(element)?;
+    Ok(())
 }
 
 // Puts keys in order, each once.

@@ -9,7 +9,7 @@ ghost use Rattle.slot_index.specs.Keys.{key_cmp};
 ghost use Rattle.triple_store.specs.Keys.{marked};
 ghost use Rattle.triple_store.specs.Times.{count_beside};
 
-use crate::keys::{NOWHERE, narrowed};
+use crate::keys::{NOWHERE, narrowed, put_last};
 use rdf_term::OutOfMemory;
 use slot_index::Key;
 use std::alloc::Global;
@@ -115,10 +115,10 @@ impl Laid {
         ensures gone { OnOk result (self.new.gone.items ≡ self.old.gone.items ++ (if stays then [] else key ∷ [])) }
     {
         if stays {
-            self.moved.push(narrowed(self.keys.len()))?;
+            put_last(&mut self.moved, narrowed(self.keys.len()))?;
             self.put(key, count)
         } else {
-            self.moved.push(NOWHERE)?;
+            put_last(&mut self.moved, NOWHERE)?;
             self.gone.push(key)?;
             Ok(())
         }
@@ -143,8 +143,8 @@ impl Laid {
         ensures counts { OnOk result (self.new.counts.items ≡ self.old.counts.items ++ count ∷ []) }
         ensures gone { self.new.gone.items ≡ self.old.gone.items }
     {
-        self.keys.push(key)?;
-        self.counts.push(count)?;
+        put_last(&mut self.keys, key)?;
+        put_last(&mut self.counts, count)?;
         Ok(())
     }
 }

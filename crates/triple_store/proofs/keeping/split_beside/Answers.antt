@@ -4,7 +4,7 @@ use Rattle.triple_store.specs.Keys.{marked}
 use Rattle.triple_store.proofs.Marked.{set_long}
 use Rattle.triple_store.proofs.Staying.{apart_more, beside_kept, beside_none_met, beside_rest, nothing_apart}
 use Rattle.triple_store.proofs.keeping.split_beside.Goals as goal
-use Rattle.triple_store.proofs.keeping.split_beside.Goals.{in-Some, in-None+in_ok-push-in-None}
+use Rattle.triple_store.proofs.keeping.split_beside.Goals.{in-Some, in-None+in_ok-put_last-in-None}
 
 pub loop-index-init : goal.loop-index-init
 loop-index-init c = record {
@@ -26,9 +26,9 @@ loop-index-preserved c =
         same = beside_kept c.args.old.now c.args.met.now (marked c.args.old.now c.args.marks.items) c.loop-index.kept.items c.loop-index.rest.items c.loop-index.index _ c.loop-index-test.true c.loop-index.invariant.same w.in-Some.old_index c.loop-index.invariant.len w.in-Some.ensures.found;
         apart = c.loop-index.invariant.apart;
       })
-      | in-None+in_ok-push-in-None w ↦ rw (w.kept-is, w.rest-is) (record {
+      | in-None+in_ok-put_last-in-None w ↦ rw (w.kept-is, w.rest-is) (record {
         len = c.loop-index.invariant.len;
-        same = rw w.in_ok-push-in-None.ensures.items (beside_rest c.args.old.now c.args.met.now (marked c.args.old.now c.args.marks.items) c.loop-index.kept.items c.loop-index.rest.items c.loop-index.index _ c.loop-index-test.true c.loop-index.invariant.same);
-        apart = rw w.in_ok-push-in-None.ensures.items (apart_more c.args.old.now c.loop-index.rest.items _ w.in-None.ensures.none c.loop-index.invariant.apart);
+        same = rw w.in_ok-put_last-in-None.ensures (beside_rest c.args.old.now c.args.met.now (marked c.args.old.now c.args.marks.items) c.loop-index.kept.items c.loop-index.rest.items c.loop-index.index _ c.loop-index-test.true c.loop-index.invariant.same);
+        apart = rw w.in_ok-put_last-in-None.ensures (apart_more c.args.old.now c.loop-index.rest.items _ w.in-None.ensures.none c.loop-index.invariant.apart);
       })
     ]
