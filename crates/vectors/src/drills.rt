@@ -2,7 +2,6 @@
 
 ghost use Rattle.drill.specs.Drill.{IsSize};
 
-use crate::folders::check_fetch;
 use delivery::Delivery;
 use drill::{DrillRevisions, deliveries};
 use entity_json::document;
@@ -63,6 +62,26 @@ fn deliveries_of_items(rt: HostRuntime) -> Result<(), Fail> {
     let watermark = (None, 0, 20_000_000);
     let late = (Some(Kind::Edit), 19, 17_000_000);
     check_deliveries(&rt, 10, &[later, earlier, later, deletion, watermark, late])
+}
+
+// What a fetch gives is to be this.
+fn check_fetch(
+    rt: &(impl Abort + AllocGlobal),
+    revisions: &mut DrillRevisions,
+    place: &str,
+    rev: u64,
+    want: Result<&str, NoRevision>,
+) {
+    let found = revisions.fetch(rt.alloc(), place, rev);
+    let found = match &found {
+        Ok(bytes) => Ok(bytes.as_slice()),
+        Err(why) => Err(*why),
+    };
+    let want = match want {
+        Ok(text) => Ok(text.as_bytes()),
+        Err(why) => Err(why),
+    };
+    assert_eq!(rt; found, want, "{place}, {rev}");
 }
 
 #[test]

@@ -6,7 +6,7 @@ use std::process::Abort;
 use std::test::Fail;
 
 // What a fetch gives is to be this.
-pub(crate) fn check_fetch<R: Revisions>(
+fn check_fetch<R: Revisions>(
     rt: &(impl Abort + AllocGlobal),
     revisions: &mut R,
     place: &str,

@@ -44,11 +44,17 @@ pub(crate) fn triple_of(alloc: Global, words: &str) -> Option<Triple>
 {
     let (subject, rest) = words.split_once(' ')?;
     let (predicate, object) = rest.split_once(' ')?;
-    Some(Triple {
-        subject: term_of(alloc, subject)?,
-        predicate: term_of(alloc, predicate)?,
-        object: term_of(alloc, object)?,
-    })
+    let subject = term_of(alloc, subject);
+    let predicate = term_of(alloc, predicate);
+    let object = term_of(alloc, object);
+    match (subject, predicate, object) {
+        (Some(subject), Some(predicate), Some(object)) => Some(Triple {
+            subject,
+            predicate,
+            object,
+        }),
+        _ => None,
+    }
 }
 
 // The set of one triple; None where memory is refused.
