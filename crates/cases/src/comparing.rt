@@ -18,6 +18,49 @@ pub fn tried_once(
     difference(alloc, expected, &left)
 }
 
+// Makes a run that must stop with a status once so much was printed, and says how it differs.
+pub fn tried_till_stop(
+    alloc: Global,
+    keys: RandomState,
+    given: &Given,
+    status: &str,
+    out: &[u8],
+) -> Result<Option<String>> {
+    let out = Vec::from_slice(alloc, out)?;
+    let expected = stopped(alloc, status, out)?;
+    tried_once(alloc, keys, given, &expected)
+}
+
+// Makes a run that must stop while it saves, once so much was saved and all was printed, and says how it differs.
+pub fn tried_till_save_stops(
+    alloc: Global,
+    keys: RandomState,
+    given: &Given,
+    whole: &Expected,
+    saved: &[u8],
+) -> Result<Option<String>> {
+    let saved = Vec::from_slice(alloc, saved)?;
+    let out = Vec::from_slice(alloc, whole.out.as_slice())?;
+    let mut expected = stopped(alloc, "4 wdq: write fault", out)?;
+    expected.saved = Some(saved);
+    tried_once(alloc, keys, given, &expected)
+}
+
+// What a run must leave that stopped.
+fn stopped(alloc: Global, status: &str, out: Vec<u8>) -> Result<Expected> {
+    let status = String::from_str(alloc, status)?;
+    Ok(Expected {
+        status,
+        out,
+        saved: None,
+        records: None,
+        side: None,
+        owners: None,
+        fetches: None,
+        waiting: None,
+    })
+}
+
 // What differs; None where nothing does.
 fn difference(alloc: Global, expected: &Expected, left: &Left) -> Result<Option<String>> {
     let status = status_line(alloc, left)?;

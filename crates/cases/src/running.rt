@@ -35,9 +35,7 @@ type MemoryPorts = Ports<MemorySource, MemoryRevisions, MemorySink, MemorySink>;
 // Makes one run.
 pub fn run_over(alloc: Global, keys: RandomState, given: &Given) -> Result<Left> {
     let mut ports = ports(alloc, given)?;
-    let mut world = World::new(alloc, keys)?;
-    let words = given.words.as_slice();
-    let status = run(alloc, keys, words, &mut ports, &mut world);
+    let (status, world) = run_in_new_world(alloc, keys, given.words.as_slice(), &mut ports)?;
     let fetches = ports.revisions.fetches();
     Ok(Left {
         status,
@@ -46,6 +44,19 @@ pub fn run_over(alloc: Global, keys: RandomState, given: &Given) -> Result<Left>
         world,
         fetches,
     })
+}
+
+// Makes the top call over a new world: how it ended, and the world that it left. Nothing else stands in this function, since the proof of
+// each call and way out behind the top call would go over all that the top call promises.
+fn run_in_new_world(
+    alloc: Global,
+    keys: RandomState,
+    words: &[String],
+    ports: &mut MemoryPorts,
+) -> Result<(Status, World)> {
+    let mut world = World::new(alloc, keys)?;
+    let status = run(alloc, keys, words, ports, &mut world);
+    Ok((status, world))
 }
 
 // All but the world that a run left.

@@ -121,15 +121,20 @@ pub fn owners(alloc: Global, world: &World, given: &[u8]) -> Result<String> {
     Ok(lines)
 }
 
-// How many entities hold the triple with this text. What is stored has to agree, and so has what each entity holds.
+// How many entities hold the triple with this text.
 fn owners_of(alloc: Global, world: &World, text: &str) -> Result<u64> {
     let triple = triple_in(alloc, text).context(format_args!("no triple, or no memory: {text}"))?;
-    let count = world.owners(&triple);
-    let stored = is_stored(alloc, world, &triple).context(format_args!("{text}"))?;
+    agreed_owners(alloc, world, &triple, text)
+}
+
+// How many entities hold a triple. What is stored has to agree, and so has what each entity holds.
+fn agreed_owners(alloc: Global, world: &World, triple: &Triple, text: &str) -> Result<u64> {
+    let count = world.owners(triple);
+    let stored = is_stored(alloc, world, triple).context(format_args!("{text}"))?;
     if stored != (count > 0) {
         bail!("what is stored doesn't agree with the owners of {text}");
     }
-    if holders(world, &triple).context("out of memory")? != count {
+    if holders(world, triple).context("out of memory")? != count {
         bail!("what the entities hold doesn't agree with the owners of {text}");
     }
     Ok(count)

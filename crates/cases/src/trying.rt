@@ -1,6 +1,6 @@
 // A case tried: once, with each row of its table, or with each of its calls failing in turn.
 
-use crate::comparing::tried_once;
+use crate::comparing::{tried_once, tried_till_save_stops, tried_till_stop};
 use crate::cutting::{is_cut, tried_in_two};
 use crate::trial::{Trial, differs_at};
 use anyhow::{Context, Result};
@@ -105,8 +105,8 @@ fn tried_with_reads(
         given.reads.failing = vec![in alloc; call]?;
         let asked = questions(alloc, taken.as_slice())?;
         let out = answers(alloc, expected.out.as_slice(), asked)?;
-        let before = stopped(alloc, "3 wdq: read fault", out)?;
-        if let Some(difference) = tried_once(alloc, keys, given, &before)? {
+        let found = tried_till_stop(alloc, keys, given, "3 wdq: read fault", out.as_slice())?;
+        if let Some(difference) = found {
             return differs_at(alloc, "the failing read", call, call, difference.as_str());
         }
         taken.extend_from_slice(piece.as_slice())?;
@@ -132,9 +132,8 @@ fn tried_with_writes(
     let mut call = 1u64;
     for piece in &pieces {
         given.writes.failing = vec![in alloc; call]?;
-        let out = Vec::from_slice(alloc, taken.as_slice())?;
-        let before = stopped(alloc, "4 wdq: write fault", out)?;
-        if let Some(difference) = tried_once(alloc, keys, given, &before)? {
+        let found = tried_till_stop(alloc, keys, given, "4 wdq: write fault", taken.as_slice())?;
+        if let Some(difference) = found {
             return differs_at(alloc, "the failing write", call, call, difference.as_str());
         }
         taken.extend_from_slice(piece.as_slice())?;
@@ -161,10 +160,8 @@ fn tried_with_saves(
     let mut call = 1u64;
     for piece in &pieces {
         given.saves.failing = vec![in alloc; call]?;
-        let out = Vec::from_slice(alloc, expected.out.as_slice())?;
-        let mut before = stopped(alloc, "4 wdq: write fault", out)?;
-        before.saved = Some(Vec::from_slice(alloc, taken.as_slice())?);
-        if let Some(difference) = tried_once(alloc, keys, given, &before)? {
+        let found = tried_till_save_stops(alloc, keys, given, expected, taken.as_slice())?;
+        if let Some(difference) = found {
             return differs_at(alloc, "the failing save", call, call, difference.as_str());
         }
         taken.extend_from_slice(piece.as_slice())?;
@@ -189,8 +186,8 @@ fn tried_with_loads(
     let calls = pieces.len() as u64;
     for call in 1..=calls {
         given.loads.failing = vec![in alloc; call]?;
-        let before = stopped(alloc, "3 wdq: read fault", Vec::new(alloc))?;
-        if let Some(difference) = tried_once(alloc, keys, given, &before)? {
+        let found = tried_till_stop(alloc, keys, given, "3 wdq: read fault", b"")?;
+        if let Some(difference) = found {
             return differs_at(alloc, "the failing load", call, call, difference.as_str());
         }
     }
@@ -218,9 +215,9 @@ fn tried_with_snapshots(alloc: Global, keys: RandomState, given: &mut Given) -> 
             .saturating_add(1);
         given.resumed = Vec::from_slice(alloc, front)?;
         let status = format!(in alloc; "8 wdq: snapshot: line {line}")?;
-        let refused = stopped(alloc, status.as_str(), Vec::new(alloc))?;
         runs = runs.saturating_add(1);
-        if let Some(difference) = tried_once(alloc, keys, given, &refused)? {
+        let found = tried_till_stop(alloc, keys, given, status.as_str(), b"")?;
+        if let Some(difference) = found {
             return differs_at(alloc, "the byte", length as u64, runs, difference.as_str());
         }
     }
@@ -251,21 +248,6 @@ fn tried_with_fronts(
     Ok(Trial {
         runs,
         difference: None,
-    })
-}
-
-// What a run must leave that stopped.
-fn stopped(alloc: Global, status: &str, out: Vec<u8>) -> Result<Expected> {
-    let status = String::from_str(alloc, status)?;
-    Ok(Expected {
-        status,
-        out,
-        saved: None,
-        records: None,
-        side: None,
-        owners: None,
-        fetches: None,
-        waiting: None,
     })
 }
 
