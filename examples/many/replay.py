@@ -40,7 +40,7 @@ class Ended(Exception):
 
 @dataclasses.dataclass
 class Job:
-    """What a worker has to know to run a part: the file of its events, the program with its words and the folder that it runs in, and
+    """What a worker has to know to run a part: the file of its events, the program with its arguments and the folder that it runs in, and
     where to write."""
 
     part: int
@@ -211,7 +211,7 @@ def run_parts(client, jobs, figures):
 
 
 class Parser(argparse.ArgumentParser):
-    """A parser whose status for words that aren't understood is none of wdq's."""
+    """A parser whose status for arguments that aren't understood is none of wdq's."""
 
     def error(self, message):
         raise Ended(USAGE, f"{message} (replay.py -h says its usage)")
@@ -226,7 +226,7 @@ def read_arguments():
     parser.add_argument("--work", metavar="FOLDER", help="where the parts write what they print; without it, a folder that is removed at the end")
     parser.add_argument("--figures", action="store_true", help="tell on standard error what each part took")
     parser.add_argument("events", metavar="EVENTS", help="the event file")
-    parser.add_argument("words", nargs="*", metavar="WORD", help="after --, the words of wdq replay, as --from pages --export")
+    parser.add_argument("words", nargs="*", metavar="ARGUMENT", help="after --, the arguments of wdq replay, as --from pages --export")
     arguments = parser.parse_args()
     if arguments.parts < 1:
         raise Ended(USAGE, "--parts takes a number from 1 on")

@@ -29,7 +29,7 @@ OWNER = f"{os.getpid()}-{uuid.uuid4().hex}"
 
 
 def words():
-    """The words of the command line."""
+    """The arguments of the command line."""
     parser = argparse.ArgumentParser(description=__doc__, formatter_class=argparse.RawDescriptionHelpFormatter)
     parser.add_argument("--port", type=int, required=True, help="where Redis listens on the loopback address")
     parser.add_argument("--parts", type=int, required=True, help="how many parts there are")

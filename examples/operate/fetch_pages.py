@@ -5,7 +5,7 @@
 
 A page that is there isn't fetched again. A file is whole or not there. If the wiki is busy, the script asks again after growing pauses; it
 names any other answer on standard error, and counts it. For a redirect the wiki may serve its target's page; then the script takes the
-revision's own text from the wiki's API. Status 0: each page is there; 1: some aren't (wdq calls them `missing`); 2: words or files are wrong.
+revision's own text from the wiki's API. Status 0: each page is there; 1: some aren't (wdq calls them `missing`); 2: arguments or files are wrong.
 """
 
 import argparse

@@ -19,7 +19,7 @@
 #   --site URL, --tries N, --pause S for fetch_pages.py and reconcile.py
 #
 # WDQ names the program; without it, it is this repository's wdq.
-# Status 0: the batch is taken, or there is none; 1: run the step again; 2: words or programs are wrong; 4: look at what it says.
+# Status 0: the batch is taken, or there is none; 1: run the step again; 2: arguments or programs are wrong; 4: look at what it says.
 here=$(cd "$(dirname "$0")" && pwd) || exit 2
 LC_ALL=C PYTHONDONTWRITEBYTECODE=1
 export LC_ALL PYTHONDONTWRITEBYTECODE

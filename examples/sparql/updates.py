@@ -13,7 +13,7 @@ counts the triples of each value in an SQLite file, and a value goes with its la
 on other globes, long numbers and IRIs) are sent as texts of the datatype <urn:wdq:unread>. Records that the store has and the file
 doesn't are only counted, so if the file is lost, read the stream from record 1.
 
-Statuses: 0 all records are applied; 1 a line is no part of a record; 2 the words are wrong; 3 the store or the file of counts failed or
+Statuses: 0 all records are applied; 1 a line is no part of a record; 2 the arguments are wrong; 3 the store or the file of counts failed or
 can't be reached; 4 the next record is missing, the stream ends before the store's number, the store's records were others, or the counts
 are of another stream or ahead of the store.
 """
