@@ -1,12 +1,13 @@
 // The lines of the transcript, but for those of the triples.
 
 ghost use Rattle.std.specs.Prelude.{◌≡◌, IfOk, string_bytes};
-ghost use Rattle.replay_model.specs.Transcript.{ask_head, cause_word, entry_line, entry_word, entry_words, event_words, kind_word, match_head, mode_line, open_word, side_line, state_line, stated_line, unfit_word};
+ghost use Rattle.replay_model.specs.Transcript.{ask_head, entry_line, entry_word, entry_words, event_words, match_head, mode_line, open_word, side_line, state_line, stated_line};
 
-use entity_model::{EntityId, Event, Kind, Unfit};
+use entity_model::{EntityId, Event};
 use entity_state::{Mode, State};
 use rdf_term::OutOfMemory;
-use side_output::{Cause, Entry};
+use replay_model::{cause_word, kind_word};
+use side_output::Entry;
 use std::alloc::Global;
 
 // The first line of the answer to the question with this number.
@@ -122,44 +123,4 @@ fn open_word(is_open: bool) -> &'static str
     ensures { result.now ≡ open_word is_open }
 {
     if is_open { "open" } else { "closed" }
-}
-
-// The word for a kind of event.
-#[tactic(auto, unfolding(replay_model::specs::Transcript::kind_word))]
-fn kind_word(kind: Kind) -> &'static str
-    ensures { result.now ≡ kind_word kind }
-{
-    match kind {
-        Kind::Edit => "edit",
-        Kind::Delete => "delete",
-        Kind::Undelete => "undelete",
-        Kind::ReconcileDeleted => "reconcile-deleted",
-        Kind::ReconcileKept => "reconcile-kept",
-    }
-}
-
-// The word for why a revision isn't held.
-#[tactic(auto, unfolding(replay_model::specs::Transcript::cause_word))]
-fn cause_word(cause: Cause) -> &'static str
-    ensures { result.now ≡ cause_word cause }
-{
-    match cause {
-        Cause::Missing => "missing",
-        Cause::Failed => "failed",
-        Cause::Unfit(unfit) => unfit_word(unfit),
-    }
-}
-
-// The word for why bytes are no document.
-#[tactic(auto, unfolding(replay_model::specs::Transcript::unfit_word))]
-fn unfit_word(unfit: Unfit) -> &'static str
-    ensures { result.now ≡ unfit_word unfit }
-{
-    match unfit {
-        Unfit::Large => "unfit-large",
-        Unfit::Deep => "unfit-deep",
-        Unfit::NotJson => "unfit-notjson",
-        Unfit::Shape => "unfit-shape",
-        Unfit::Foreign => "unfit-foreign",
-    }
 }

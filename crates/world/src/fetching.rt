@@ -145,8 +145,11 @@ fn judge_beside(
     }
 }
 
+// The length in bytes from which a page is compared with the one that its entity holds: a shorter one is read as a whole in less time.
+const SHORTEST_COMPARED: usize = 1024;
+
 // What the page changes of the one that its entity holds, where it may be compared with that: not where there are routes, since these ask for all
-// that a page says.
+// that a page says, and not where the page is short.
 fn compare(alloc: Global, wanted: Wanted, bytes: &[u8], beside: Beside<'_>) -> Option<ChangedTexts>
     requires { IfSome beside.known (HasEntity wanted.id) }
     ensures document { IfSome result (λ _. unfit_of wanted.id bytes.now ≡ None) }
@@ -154,6 +157,9 @@ fn compare(alloc: Global, wanted: Wanted, bytes: &[u8], beside: Beside<'_>) -> O
     ensures changes { (records : Records) (by_two : List TheId) → IfSome beside.entry.known (IsKnownPage records by_two wanted.version wanted.id) →
         IfSome result (λ texts. IsChangeOfHeld records by_two wanted.version wanted.id wanted.rev bytes.now texts) }
 {
+    if bytes.len() < SHORTEST_COMPARED {
+        return None;
+    }
     if beside.routes.is_some() {
         return None;
     }
