@@ -1,8 +1,7 @@
 // Tests of ASCII bytes.
 
 ghost use Rattle.std.specs.Prelude.{◌≡◌};
-ghost use Rattle.std.specs.Char.{is_ascii_alphanumeric};
-ghost use Rattle.std.specs.List.{list_all};
+ghost use Rattle.std.specs.{Char.is_ascii_alphanumeric, List.list_all};
 
 /// Whether each byte is an ASCII letter or digit.
 pub fn are_alphanumeric(bytes: &[u8]) -> bool

@@ -1,8 +1,7 @@
 // An owned UTF-8 text.
 
 ghost use Rattle.std.specs.Prelude.{◌≡◌, IfOk, string_bytes};
-ghost use Rattle.std.specs.Cmp.Rules.{comparing};
-ghost use Rattle.std.specs.Str.{bytes_eq};
+ghost use Rattle.std.specs.{Cmp.Rules.comparing, Str.bytes_eq};
 ghost use Rattle.std.proofs.Common.{rules};
 
 use crate::memory::OutOfMemory;

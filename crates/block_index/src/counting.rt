@@ -1,9 +1,7 @@
 // How many keys stand between two positions.
 
 ghost use Rattle.std.specs.Prelude.{◌≡◌, ◌-◌, ◌^◌, ◌<◌, ◌≤◌, [], length, slice_index_or};
-ghost use Rattle.block_index.specs.Blocks.{keys_of};
-ghost use Rattle.block_index.specs.Groups.{IsInside, index_of};
-ghost use Rattle.block_index.specs.Search.{keys_before};
+ghost use Rattle.block_index.specs.{Blocks.keys_of, Groups.IsInside, Groups.index_of, Search.keys_before};
 
 use crate::block::Block;
 use crate::group::Group;

@@ -2,8 +2,7 @@
 
 ghost use Rattle.std.specs.Prelude.{◌≡◌, ◌<◌, ◌≤◌, ℕ, length, slice_index_or, [], IfOk, OnOk, OnErr};
 ghost use Rattle.std.specs.List.{insert, remove};
-ghost use Rattle.block_index.specs.Blocks.{AreFilled, keys_of};
-ghost use Rattle.block_index.specs.Edit.{Edits};
+ghost use Rattle.block_index.specs.{Blocks.AreFilled, Blocks.keys_of, Edit.Edits};
 ghost use Rattle.block_index.specs.Groups.{AreGroups, HasRoomAt, IsInside, IsShortAt, index_of};
 
 use crate::group::{Group, HALF_BLOCKS, MOST_BLOCKS};

@@ -2,10 +2,7 @@
 
 ghost use Rattle.std.specs.Prelude.{◌≡◌, ◌+◌, ◌^◌, ◌<◌, ◌≤◌, [], ◌∷◌, ◌++◌, length, slice_index_or, IfOk, OnOk, OnErr};
 ghost use Rattle.std.specs.List.{insert, remove};
-ghost use Rattle.block_index.specs.Blocks.{AreFilled, keys_of};
-ghost use Rattle.block_index.specs.Edit.{Edits};
-ghost use Rattle.block_index.specs.Groups.{AreEvened};
-ghost use Rattle.block_index.specs.Search.{first_at};
+ghost use Rattle.block_index.specs.{Blocks.AreFilled, Blocks.keys_of, Edit.Edits, Groups.AreEvened, Search.first_at};
 
 use crate::block::{Block, Halves, MOST};
 use base::OutOfMemory;

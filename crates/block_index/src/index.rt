@@ -1,13 +1,9 @@
 // The set of keys.
 
 ghost use Rattle.std.specs.Prelude.{◌≡◌, ℕ, ◌+◌, ◌*◌, ◌^◌, ◌<◌, ◌≤◌, not, [], length, slice_index_or, IfOk, OnOk, OnErr};
-ghost use Rattle.std.specs.Bool.{OnFalse};
-ghost use Rattle.std.specs.Ordering.{eq_by_cmp};
-ghost use Rattle.std.specs.BTreeSet.{insert_key};
-ghost use Rattle.std.specs.Set.{remove_key};
+ghost use Rattle.std.specs.{Bool.OnFalse, Ordering.eq_by_cmp, BTreeSet.insert_key, Set.remove_key};
 ghost use Rattle.rising.specs.Rising.{IsRising, has};
-ghost use Rattle.block_index.specs.Steps.{WithinSteps};
-ghost use Rattle.block_index.specs.Blocks.{AreFilled, ChangesTwo, keys_between, keys_of};
+ghost use Rattle.block_index.specs.{Steps.WithinSteps, Blocks.AreFilled, Blocks.ChangesTwo, Blocks.keys_between, Blocks.keys_of};
 
 use crate::counting::count_between;
 use crate::edit::{put_in, take_out};
@@ -34,8 +30,7 @@ pub struct BlockIndex<K: Ranked> {
 
 impl<K: Ranked> Model for BlockIndex<K> {
     ghost use Rattle.std.specs.Prelude.{List};
-    ghost use Rattle.block_index.specs.Blocks.{keys_of};
-    ghost use Rattle.block_index.specs.Groups.{IsGroupedIndex};
+    ghost use Rattle.block_index.specs.{Blocks.keys_of, Groups.IsGroupedIndex};
 
     ghost Value = { List (List K) };
 

@@ -1,9 +1,7 @@
 // What an index asks of its keys.
 
 ghost use Rattle.std.specs.Prelude.{◌≡◌, ◌+◌};
-ghost use Rattle.std.specs.declared.cmp.Ordering.{Ordering};
-ghost use Rattle.std.specs.Cmp.{IsTotalOrder};
-ghost use Rattle.std.specs.FinMap.{IsAntisymmetric};
+ghost use Rattle.std.specs.{declared.cmp.Ordering.Ordering, Cmp.IsTotalOrder, FinMap.IsAntisymmetric};
 
 use crate::steps::Steps;
 use std::cmp::Ordering;

@@ -1,10 +1,8 @@
 // Where a key stands among the groups of blocks, or would stand.
 
 ghost use Rattle.std.specs.Prelude.{◌≡◌, ◌+◌, ◌-◌, ◌<◌, ◌≤◌, length, map};
-ghost use Rattle.rising.specs.Counting.{one_if};
-ghost use Rattle.rising.specs.Rising.{IsRising};
-ghost use Rattle.block_index.specs.Steps.{WithinSteps};
-ghost use Rattle.block_index.specs.Blocks.{AreFilled, keys_of};
+ghost use Rattle.rising.specs.{Counting.one_if, Rising.IsRising};
+ghost use Rattle.block_index.specs.{Steps.WithinSteps, Blocks.AreFilled, Blocks.keys_of};
 ghost use Rattle.block_index.specs.Groups.{AreGroups, IsInside, index_of};
 ghost use Rattle.block_index.specs.Search.{EndsAt, EndsAtBlock, IsAfter, IsAfterBlock, Stands};
 

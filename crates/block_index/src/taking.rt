@@ -1,10 +1,7 @@
 // The keys of a range, copied block by block.
 
 ghost use Rattle.std.specs.Prelude.{◌≡◌, ◌+◌, ◌≤◌, [], ◌<◌, length, map, cond, slice_index_or, IfOk, OnErr};
-ghost use Rattle.block_index.specs.Blocks.{keys_of};
-ghost use Rattle.block_index.specs.Groups.{IsInside, index_of};
-ghost use Rattle.block_index.specs.Search.{keys_from};
-ghost use Rattle.block_index.specs.Taking.{Takes, up_to};
+ghost use Rattle.block_index.specs.{Blocks.keys_of, Groups.IsInside, Groups.index_of, Search.keys_from, Taking.Takes, Taking.up_to};
 
 use crate::block::Block;
 use crate::group::Group;

@@ -1,25 +1,20 @@
 //! Runs the cases of a folder: whole runs of the top call over memory, and what they must show.
 //!
-//! The crate case_file reads the cases. `running` makes one run, and `seen` says what it left; `comparing` finds the first difference;
-//! `trying` tries a case once, or with each call failing in turn; `cutting` cuts it after each of its lines, saves and resumes; `trial` has
-//! the result. `statuses` prints the texts of the statuses. README.md of crates/cases says how a case is written.
+//! The crate case_file reads the cases, and case_trial tries them. `running` makes one run, and case_world says what stands in its world.
+//! `statuses` prints the texts of the statuses. README.md of crates/cases says how a case is written.
 #![tactic(auto)]
 
-mod comparing;
-mod cutting;
 mod running;
-mod seen;
 mod statuses;
-mod trial;
-mod trying;
 
 use anyhow::Result;
 use case_file::{Case, CaseFile, case_files, cases_of};
+use case_trial::tried;
+use running::MemoryRunner;
 use statuses::print_statuses;
 use std::env;
 use std::hash::RandomState;
 use std::process::ExitCode;
-use trying::tried;
 
 // How many cases were tried, and how many runs that took; and how many differ.
 #[derive(Clone, Copy)]
@@ -72,8 +67,10 @@ fn try_file(rt: &HostRuntime, file: &CaseFile, wanted: &[String], tally: Tally) 
 // Tries a case, and prints its line.
 fn try_case(rt: &HostRuntime, case: &Case, tally: Tally) -> Result<Tally> {
     let name = case.name.as_str();
-    let keys = RandomState::new(rt)?;
-    let trial = tried(rt.alloc(), keys, case)?;
+    let runner = MemoryRunner {
+        keys: RandomState::new(rt)?,
+    };
+    let trial = tried(rt.alloc(), &runner, case)?;
     let runs = trial.runs;
     match &trial.difference {
         None if runs == 1 => println!(rt; "ok   {name}")?,

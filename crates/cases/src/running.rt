@@ -2,48 +2,36 @@
 
 use anyhow::Result;
 use case_file::{Calls, Given, Page};
+use case_trial::{Left, Runner};
+use case_world::{owners, records, side};
 use rdf_term::{List, Text};
 use revisions::{MemoryRevisions, RevisionBytes};
-use session::{Ports, Status, run};
+use session::{Ports, Status, run, status_number, status_text};
 use std::alloc::Global;
 use std::hash::RandomState;
 use world::World;
 use wq_io::{MemorySink, MemorySource};
 
-// What a run left.
-#[derive(Drop)]
-pub struct Left {
-    pub status: Status,
-    pub out: MemorySink,
-    pub saved: MemorySink,
-    pub world: World,
-    pub fetches: u64,
-}
-
-// What a run left besides its world.
-#[derive(Drop)]
-pub struct Streams {
-    pub status: Status,
-    pub out: MemorySink,
-    pub saved: MemorySink,
-    pub fetches: u64,
+// Makes runs over memory.
+#[derive(Clone, Copy)]
+pub struct MemoryRunner {
+    pub keys: RandomState,
 }
 
 // The ports of a run over memory.
 type MemoryPorts = Ports<MemorySource, MemoryRevisions, MemorySink, MemorySink>;
 
-// Makes one run.
-pub fn run_over(alloc: Global, keys: RandomState, given: &Given) -> Result<Left> {
-    let mut ports = ports(alloc, given)?;
-    let (status, world) = run_in_new_world(alloc, keys, given.words.as_slice(), &mut ports)?;
-    let fetches = ports.revisions.fetches();
-    Ok(Left {
-        status,
-        out: ports.out,
-        saved: ports.snapshot,
-        world,
-        fetches,
-    })
+impl Runner for MemoryRunner {
+    fn run(&self, alloc: Global, given: &Given, asked: &[u8]) -> Result<Left> {
+        let mut ports = ports(alloc, given)?;
+        let (status, world) = run_in_new_world(
+            alloc,
+            self.keys,
+            given.words.as_slice(),
+            &mut ports,
+        )?;
+        left(alloc, &status, &world, &ports, asked)
+    }
 }
 
 // Makes the top call over a new world: how it ended, and the world that it left. Nothing else stands in this function, since the proof of
@@ -59,14 +47,37 @@ fn run_in_new_world(
     Ok((status, world))
 }
 
-// All but the world that a run left.
-pub fn without_world(left: Left) -> Streams {
-    Streams {
-        status: left.status,
-        out: left.out,
-        saved: left.saved,
-        fetches: left.fetches,
+// What a run left.
+fn left(
+    alloc: Global,
+    status: &Status,
+    world: &World,
+    ports: &MemoryPorts,
+    asked: &[u8],
+) -> Result<Left> {
+    let out = Vec::from_slice(alloc, ports.out.bytes())?;
+    let saved = Vec::from_slice(alloc, ports.snapshot.bytes())?;
+    Ok(Left {
+        status: status_line(alloc, status)?,
+        out,
+        saved,
+        records: records(alloc, world)?,
+        side: side(alloc, world)?,
+        owners: owners(alloc, world, asked)?,
+        fetches: ports.revisions.fetches(),
+        waiting: world.pending() as u64,
+    })
+}
+
+// The number of a status, and its text where it has one.
+fn status_line(alloc: Global, status: &Status) -> Result<String> {
+    let number = status_number(status);
+    let text = status_text(alloc, status)?;
+    let text = text.as_str();
+    if text.is_empty() {
+        return Ok(format!(in alloc; "{number}")?);
     }
+    Ok(format!(in alloc; "{number} {text}")?)
 }
 
 // The ports over what is given.

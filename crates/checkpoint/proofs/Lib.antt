@@ -1,7 +1,4 @@
 mod Feeds
-mod GivenBack
-mod Loadable
-mod LoadedRoom
 mod Progress
 mod Rests
 mod SavedText

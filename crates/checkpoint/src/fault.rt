@@ -1,8 +1,7 @@
 // Why nothing was loaded.
 
 ghost use Rattle.std.specs.Prelude.{◌≡◌};
-ghost use Rattle.checkpoint.specs.Fault.{fault_of};
-ghost use Rattle.checkpoint.specs.declared.fault.LoadFault.TheVariants.{OutOfMemory as Refused};
+ghost use Rattle.checkpoint.specs.{Fault.fault_of, declared.fault.LoadFault.TheVariants.OutOfMemory as Refused};
 
 use rdf_term::OutOfMemory;
 use thiserror::Error;

@@ -1,15 +1,10 @@
 // A world that is put together line by line.
 
 ghost use Rattle.std.specs.Prelude.{◌≡◌, ℕ, ◌-◌, ◌≤◌, true, [], Some, IfOk, IsErrOf, OnErr, OnOk};
-ghost use Rattle.replay_model.specs.Play.{nothing_played};
-ghost use Rattle.replay_model.specs.ReplayState.{nothing_delivered, nothing_delivered_within};
+ghost use Rattle.replay_model.specs.{Play.nothing_played, ReplayState.nothing_delivered, ReplayState.nothing_delivered_within};
 ghost use Rattle.replay_model.specs.Versions.{all_by, meaning_by};
-ghost use Rattle.world.specs.Meaning.{meaning};
-ghost use Rattle.world.specs.Roomed.{HasRoom};
-ghost use Rattle.world.specs.Restoring.{MayStand, restored};
-ghost use Rattle.snapshot.specs.declared.line.Line.TheVariants.{Entity};
-ghost use Rattle.snapshot.specs.Waiting.{at_mark};
-ghost use Rattle.snapshot.specs.Whole.{after_line, beginning, noting};
+ghost use Rattle.world.specs.{Meaning.meaning, Roomed.HasRoom, Restoring.MayStand, Restoring.restored};
+ghost use Rattle.snapshot.specs.{declared.line.Line.TheVariants.Entity, Waiting.at_mark, Whole.after_line, Whole.beginning, Whole.noting};
 ghost use Rattle.reorder_buffer.specs.Watermarks.{reached};
 ghost use Rattle.checkpoint.specs.Loading.{HasNoRoomForLine, IsOutOfPlace, IsReady, MayCome, loading_of, may_note};
 ghost use Rattle.checkpoint.specs.Saved.{numbers_of};

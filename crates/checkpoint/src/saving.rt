@@ -3,8 +3,7 @@
 ghost use Rattle.std.specs.Prelude.{◌≡◌, ◌+◌, IfOk, flat_map, string_bytes};
 ghost use Rattle.replay_model.specs.Records.{record_of};
 ghost use Rattle.snapshot.specs.declared.line.Line.TheVariants.{Entity, Remembered, Side};
-ghost use Rattle.snapshot.specs.File.{file_text};
-ghost use Rattle.snapshot.specs.Whole.{head_of};
+ghost use Rattle.snapshot.specs.{File.file_text, Whole.head_of};
 ghost use Rattle.text_output.specs.Printing.{Prints, output};
 ghost use Rattle.checkpoint.specs.Saved.{ended, saved_of};
 

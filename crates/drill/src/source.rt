@@ -2,8 +2,7 @@
 
 ghost use Rattle.std.specs.Prelude.{◌≡◌, ◌+◌, ◌-◌, ◌*◌, ◌^◌, ◌≤◌, Some, IsTrue, ◌↔◌, MatchResult, min};
 ghost use Rattle.std.proofs.Common.{rules};
-ghost use Rattle.drill.specs.Drill.{IsSize, contents_of};
-ghost use Rattle.drill.specs.Source.{Explains, after_fetch};
+ghost use Rattle.drill.specs.{Drill.IsSize, Drill.contents_of, Source.Explains, Source.after_fetch};
 
 use crate::pages::page;
 use base::OutOfMemory;

@@ -17,7 +17,7 @@ use Rattle.value_nodes.specs.Said.{triple}
 use Rattle.munger.specs.Iris.{dataset_iri, entity_iri, is_iri_of}
 use Rattle.munger.specs.Munging.{left_by, moved_to, munge, munged}
 use Rattle.munger.specs.Naming.{named, named_triple}
-use Rattle.munger.specs.Verdict.{has_untold_type, is_moved, repeats_label}
+use Rattle.munger.specs.Verdict.{has_dropped_type, is_moved, repeats_label}
 use Rattle.triple_store.specs.Room.{distinct, terms_of}
 use Rattle.triple_store.proofs.Distinct.{fewer}
 
@@ -107,7 +107,7 @@ module _ (x : EntityId) (n : ℕ) (ts : List Triple) (c : Covered [] n ts) where
 
   left_term : (g t : Triple) (k : Term) → In g ts → In t (munged x g) → In k (terms_of t) → In k others_left
   left_term g t k there h is =
-      by_choice (λ v. In t (left_by x g v)) (is_iri_of (dataset_iri x) g.subject) (is_moved g.predicate) (has_untold_type g) (repeats_label x g) h
+      by_choice (λ v. In t (left_by x g v)) (is_iri_of (dataset_iri x) g.subject) (is_moved g.predicate) (has_dropped_type g) (repeats_label x g) h
       (λ moved. ⊎_elim (λ same. moved_term g k there (subst (λ u. In k (terms_of u)) same is)) (λ never. absurd never) moved)
       (λ never. absurd never)
       (λ kept. ⊎_elim (λ same. kept_term g k there (subst (λ u. In k (terms_of u)) same is)) (λ never. absurd never) kept)

@@ -1,13 +1,9 @@
 // What two pages of an entity have of their own.
 
 ghost use Rattle.std.specs.Prelude.{◌≡◌, Some, codes, is_some, IfSome};
-ghost use Rattle.json_spell.specs.Tree.{member_of};
-ghost use Rattle.json_spell.specs.View.{json_view};
-ghost use Rattle.entity_model.specs.declared.entity.Entity.{Entity as TheEntity};
-ghost use Rattle.entity_model.specs.declared.document.Document.TheVariants.{Entity as AnEntity};
-ghost use Rattle.entity_json.specs.Changed.{HasChanged, depth_of};
-ghost use Rattle.entity_json.specs.Document.{document_of};
-ghost use Rattle.entity_json.specs.Reading.Pages.{page_of};
+ghost use Rattle.json_spell.specs.{Tree.member_of, View.json_view};
+ghost use Rattle.entity_model.specs.{declared.entity.Entity.Entity as TheEntity, declared.document.Document.TheVariants.Entity as AnEntity};
+ghost use Rattle.entity_json.specs.{Changed.HasChanged, Changed.depth_of, Document.document_of, Reading.Pages.page_of};
 
 use crate::documents::PAGE_LIMIT;
 use crate::page::page_of;

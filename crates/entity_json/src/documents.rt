@@ -2,8 +2,7 @@
 
 ghost use Rattle.std.specs.Prelude.{Some, IfOk};
 ghost use Rattle.entity_model.specs.Document.{IsDocumentOf, IsSmall};
-ghost use Rattle.entity_json.specs.Answers.{Answers, Tells};
-ghost use Rattle.entity_json.specs.Document.{own_document};
+ghost use Rattle.entity_json.specs.{Answers.Answers, Answers.Tells, Document.own_document};
 
 use crate::fault::DocumentFault;
 use crate::page::{Page, page_of};

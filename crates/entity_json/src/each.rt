@@ -1,12 +1,8 @@
 // Goes over the values of an array or the entries of a map, with one reader for all.
 
 ghost use Rattle.std.specs.Prelude.{ℕ, Option, List as Items, map};
-ghost use Rattle.json_spell.specs.Tree.{Tree};
-ghost use Rattle.json_spell.specs.View.{json_view, member_view, pairs_of};
-ghost use Rattle.entity_json.specs.Found.{found_items, found_entries};
-ghost use Rattle.entity_json.specs.Finds.{Makes};
-ghost use Rattle.entity_json.specs.Joined.{numbered};
-ghost use Rattle.entity_json.specs.Maps.{entries};
+ghost use Rattle.json_spell.specs.{Tree.Tree, View.json_view, View.member_view, View.pairs_of};
+ghost use Rattle.entity_json.specs.{Found.found_items, Found.found_entries, Finds.Makes, Joined.numbered, Maps.entries};
 ghost use Rattle.entity_json.specs.Reading.Steps.{steps};
 
 use crate::map::{has_key, last_flags};

@@ -2,13 +2,9 @@
 
 ghost use Rattle.std.specs.Prelude.{◌≡◌, ◌↔◌, ℕ, List, Some};
 ghost use Rattle.json_spell.specs.Tree.{Tree};
-ghost use Rattle.entity_model.specs.declared.id.EntityId.{EntityId};
-ghost use Rattle.entity_model.specs.declared.unfit.Unfit.{Unfit};
-ghost use Rattle.entity_model.specs.declared.document.Document.{Document};
+ghost use Rattle.entity_model.specs.{declared.id.EntityId.EntityId, declared.unfit.Unfit.Unfit, declared.document.Document.Document};
 ghost use Rattle.entity_model.specs.Document.{IsDocumentOf, IsSmall};
-ghost use Rattle.entity_json.specs.declared.page.Page.{Page};
-ghost use Rattle.entity_json.specs.Pages.{IsPage};
-ghost use Rattle.entity_json.specs.Unfit.{HasDocument, IsUnfit};
+ghost use Rattle.entity_json.specs.{declared.page.Page.Page, Pages.IsPage, Unfit.HasDocument, Unfit.IsUnfit};
 ghost use Rattle.entity_json.specs.Document.{document_of, unfit_of};
 
 /// A JSON value is at most one page.

@@ -1,10 +1,8 @@
 // The leaves of a page: members that are texts, numbers, lists or ids.
 
 ghost use Rattle.std.specs.Prelude.{map};
-ghost use Rattle.json_spell.specs.Tree.{member_of};
-ghost use Rattle.json_spell.specs.View.{json_view};
-ghost use Rattle.entity_json.specs.Found.{found_items};
-ghost use Rattle.entity_json.specs.Finds.{Finds, FindsBy};
+ghost use Rattle.json_spell.specs.{Tree.member_of, View.json_view};
+ghost use Rattle.entity_json.specs.{Found.found_items, Finds.Finds, Finds.FindsBy};
 ghost use Rattle.entity_json.specs.Leaves.{text_of, number_of, list_of, text_at, number_at, id_at, optional_text_at, nullable_number_at, optional_list_at, id_of_kind, id_of_kind_at};
 
 use crate::part::PartFault;

@@ -3,8 +3,7 @@
 ghost use Rattle.std.specs.Prelude.{◌≡◌, ◌++◌, IfOk, string_bytes};
 ghost use Rattle.json_spell.specs.View.{json_view};
 ghost use Rattle.entity_model.specs.EntityId.{id_text};
-ghost use Rattle.entity_json.specs.Finds.{Finds, Makes};
-ghost use Rattle.entity_json.specs.Lexemes.{list_name, mark_of, texts_name};
+ghost use Rattle.entity_json.specs.{Finds.Finds, Finds.Makes, Lexemes.list_name, Lexemes.mark_of, Lexemes.texts_name};
 ghost use Rattle.entity_json.specs.Reading.Lexemes.{features_by_kind, lexeme_of, part_id_at, part_of, part_step, parts_at};
 
 use crate::each::{ItemReader, each_found_item};

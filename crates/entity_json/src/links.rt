@@ -1,8 +1,7 @@
 // Links to articles.
 
 ghost use Rattle.json_spell.specs.View.{json_view, member_view};
-ghost use Rattle.entity_json.specs.Finds.{Finds, Makes};
-ghost use Rattle.entity_json.specs.Reading.Links.{link_of, link_step, links_at};
+ghost use Rattle.entity_json.specs.{Finds.Finds, Finds.Makes, Reading.Links.link_of, Reading.Links.link_step, Reading.Links.links_at};
 
 use crate::each::{EntryReader, each_found_entry};
 use crate::items::item_ids_at;

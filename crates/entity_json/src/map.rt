@@ -2,8 +2,7 @@
 
 ghost use Rattle.std.specs.Prelude.{◌≡◌, map, IfOk, reverse};
 ghost use Rattle.json_spell.specs.View.{json_view, member_view, pairs_of};
-ghost use Rattle.entity_json.specs.Found.{found_entries};
-ghost use Rattle.entity_json.specs.Finds.{FindsBy};
+ghost use Rattle.entity_json.specs.{Found.found_entries, Finds.FindsBy};
 ghost use Rattle.entity_json.specs.Maps.{has_key, has_other_key, lasts, map_of, map_at, only_of};
 
 use crate::part::PartFault;

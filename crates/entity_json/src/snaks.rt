@@ -3,9 +3,7 @@
 ghost use Rattle.std.specs.Prelude.{◌≡◌, Some, []};
 ghost use Rattle.std.specs.Option.{unwrap_or};
 ghost use Rattle.json_spell.specs.View.{json_view, member_view};
-ghost use Rattle.entity_json.specs.Finds.{Finds, Makes};
-ghost use Rattle.entity_json.specs.Leaves.{text_of};
-ghost use Rattle.entity_json.specs.Snaks.{value_type};
+ghost use Rattle.entity_json.specs.{Finds.Finds, Finds.Makes, Leaves.text_of, Snaks.value_type};
 ghost use Rattle.entity_json.specs.Reading.Snaks.{datatype_of, content_named, snak_content, snak_of, snak_step, snaks_step, snaks_at};
 
 use crate::each::{EntryReader, ItemReader, each_found_entry, each_item};

@@ -1,8 +1,7 @@
 // Data values, by their type.
 
 ghost use Rattle.std.specs.Prelude.{◌≡◌, ◌==◌, ◌||◌};
-ghost use Rattle.std.specs.Char.{is_ascii_alphanumeric};
-ghost use Rattle.std.specs.List.{list_all};
+ghost use Rattle.std.specs.{Char.is_ascii_alphanumeric, List.list_all};
 ghost use Rattle.json_spell.specs.View.{json_view};
 ghost use Rattle.entity_model.specs.Value.{is_entity_text};
 ghost use Rattle.entity_json.specs.Finds.{Finds};

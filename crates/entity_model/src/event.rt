@@ -46,8 +46,7 @@ pub struct Event {
 }
 
 impl Event {
-    ghost use Rattle.entity_model.specs.Event.{event_cmp};
-    ghost use Rattle.entity_model.specs.EntityId.{entity_cmp};
+    ghost use Rattle.entity_model.specs.{Event.event_cmp, EntityId.entity_cmp};
 
     /// Says whether this event is applied before the other: by time, then by revision, then by
     /// kind, then by entity.
@@ -69,8 +68,7 @@ impl Event {
 }
 
 impl PartialEq for Event {
-    ghost use Rattle.std.specs.Ordering.{eq_by_cmp};
-    ghost use Rattle.std.specs.Cmp.{partial_equiv_from_equiv, eq_by_cmp_equiv};
+    ghost use Rattle.std.specs.{Ordering.eq_by_cmp, Cmp.partial_equiv_from_equiv, Cmp.eq_by_cmp_equiv};
     ghost use Rattle.entity_model.specs.Event.{event_cmp, event_cmp_total};
 
     ghost eq = { eq_by_cmp event_cmp };
@@ -90,8 +88,7 @@ impl Eq for Event {
 }
 
 impl PartialOrd for Event {
-    ghost use Rattle.std.specs.Ordering.{as_partial_cmp};
-    ghost use Rattle.std.specs.Cmp.{partial_order_from_total};
+    ghost use Rattle.std.specs.{Ordering.as_partial_cmp, Cmp.partial_order_from_total};
     ghost use Rattle.entity_model.specs.Event.{event_cmp, event_cmp_total};
 
     ghost partial_cmp = { as_partial_cmp event_cmp };

@@ -1,8 +1,7 @@
 // The ids of entities: their text and their order.
 
 ghost use Rattle.std.specs.Prelude.{◌≡◌, ◌≢◌, ℕ, ◌<◌, ◌^◌, List, ◌∷◌, IfSome, IfNone, Some, IfOk};
-ghost use Rattle.std.specs.Fmt.{decimal};
-ghost use Rattle.std.specs.Ordering.{nat_cmp, on};
+ghost use Rattle.std.specs.{Fmt.decimal, Ordering.nat_cmp, Ordering.on};
 ghost use Rattle.entity_model.specs.IdKind.{id_kind_place, letter_of};
 
 use base::{OutOfMemory, Text};
@@ -40,8 +39,7 @@ pub struct EntityId {
 }
 
 impl EntityId {
-    ghost use Rattle.entity_model.specs.EntityId.{id_text, IsId};
-    ghost use Rattle.entity_model.specs.IdOf.{id_of};
+    ghost use Rattle.entity_model.specs.{EntityId.id_text, EntityId.IsId, IdOf.id_of};
 
     /// Reads an id: the letter P, Q or L, and then a number from 1 to 4,294,967,295 in decimal without
     /// a leading zero. Any other text is none.
@@ -105,8 +103,7 @@ pub(crate) fn read_number(digits: &str) -> Option<u32>
 }
 
 impl PartialEq for EntityId {
-    ghost use Rattle.std.specs.Ordering.{eq_by_cmp};
-    ghost use Rattle.std.specs.Cmp.{partial_equiv_from_equiv, eq_by_cmp_equiv};
+    ghost use Rattle.std.specs.{Ordering.eq_by_cmp, Cmp.partial_equiv_from_equiv, Cmp.eq_by_cmp_equiv};
     ghost use Rattle.entity_model.specs.EntityId.{entity_cmp, entity_cmp_total};
 
     ghost eq = { eq_by_cmp entity_cmp };
@@ -126,8 +123,7 @@ impl Eq for EntityId {
 }
 
 impl PartialOrd for EntityId {
-    ghost use Rattle.std.specs.Ordering.{as_partial_cmp};
-    ghost use Rattle.std.specs.Cmp.{partial_order_from_total};
+    ghost use Rattle.std.specs.{Ordering.as_partial_cmp, Cmp.partial_order_from_total};
     ghost use Rattle.entity_model.specs.EntityId.{entity_cmp, entity_cmp_total};
 
     ghost partial_cmp = { as_partial_cmp entity_cmp };

@@ -2,10 +2,8 @@
 
 ghost use Rattle.std.specs.Prelude.{◌≡◌, OnOk};
 ghost use Rattle.std.specs.List.{flat_map};
-ghost use Rattle.triple_sink.specs.Gains.{Gains, KeepsFront};
-ghost use Rattle.triple_sink.specs.TermRef.{meant};
-ghost use Rattle.entity_rdf.specs.About.{class_of, label_triples, tagged_triples};
-ghost use Rattle.entity_rdf.specs.Dump.{text_triples};
+ghost use Rattle.triple_sink.specs.{Gains.Gains, Gains.KeepsFront, TermRef.meant};
+ghost use Rattle.entity_rdf.specs.{About.class_of, About.label_triples, About.tagged_triples, Dump.text_triples};
 
 use entity_model::{Entity, EntityId, IdKind, Tagged};
 use page_rdf::text_ref;

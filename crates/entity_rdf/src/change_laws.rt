@@ -4,14 +4,11 @@ ghost use Rattle.std.specs.Prelude.{ℕ};
 ghost use Rattle.std.specs.List.{AllByRecursion};
 ghost use Rattle.rdf_term.specs.Fit.{HasFitAndShortTerms};
 ghost use Rattle.merging.specs.Merging.{Balance, IsWithin};
-ghost use Rattle.entity_model.specs.declared.id.EntityId.{EntityId};
-ghost use Rattle.entity_model.specs.declared.entity.Entity.{Entity};
-ghost use Rattle.entity_model.specs.declared.document.Document.TheVariants.{Entity as AnEntity};
-ghost use Rattle.entity_model.specs.Document.{IsSmall};
+ghost use Rattle.entity_model.specs.{declared.id.EntityId.EntityId, declared.entity.Entity.Entity};
+ghost use Rattle.entity_model.specs.{declared.document.Document.TheVariants.Entity as AnEntity, Document.IsSmall};
 ghost use Rattle.entity_model.specs.declared.mapping.MappingVersion.{MappingVersion};
 ghost use Rattle.entity_change.specs.Changes.{EntityChanges};
-ghost use Rattle.entity_rdf.specs.Changing.{kept_list};
-ghost use Rattle.entity_rdf.specs.Counted.{AreAfter, counted_kept, counts_of};
+ghost use Rattle.entity_rdf.specs.{Changing.kept_list, Counted.AreAfter, Counted.counted_kept, Counted.counts_of};
 
 /// What is kept of the new document and of the parts that are gone comes to what is kept of the old one and of the parts that came,
 /// each triple as many times. A part says how many statements and links its whole document has.

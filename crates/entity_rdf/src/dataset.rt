@@ -1,10 +1,8 @@
 // What the page of an item or a property says of the dataset that it is.
 
 ghost use Rattle.std.specs.Prelude.{OnOk};
-ghost use Rattle.triple_sink.specs.Gains.{Gains, KeepsFront};
-ghost use Rattle.triple_sink.specs.TermRef.{meant};
-ghost use Rattle.entity_rdf.specs.About.{link_count};
-ghost use Rattle.entity_rdf.specs.Counted.{counted_dataset, counted_numbers};
+ghost use Rattle.triple_sink.specs.{Gains.Gains, Gains.KeepsFront, TermRef.meant};
+ghost use Rattle.entity_rdf.specs.{About.link_count, Counted.counted_dataset, Counted.counted_numbers};
 
 use crate::counted::{Counted, Counts};
 use entity_model::{EntityId, IdKind};

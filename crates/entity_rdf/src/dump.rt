@@ -2,12 +2,10 @@
 
 ghost use Rattle.std.specs.Prelude.{◌≡◌, ◌++◌, IfOk};
 ghost use Rattle.std.specs.List.{AllByRecursion, flat_map};
-ghost use Rattle.rdf_term.specs.Fit.{HasFitAndShortTerms};
+ghost use Rattle.rdf_term.specs.{Fit.HasFitAndShortTerms, Order.triple_cmp};
 ghost use Rattle.rising.specs.Rising.{sorted};
-ghost use Rattle.rdf_term.specs.Order.{triple_cmp};
 ghost use Rattle.entity_model.specs.Document.{IsDocumentOf, IsSmall};
-ghost use Rattle.munger.specs.Munging.{munge, munged};
-ghost use Rattle.munger.specs.Short.{HasShortLabels};
+ghost use Rattle.munger.specs.{Munging.munge, Munging.munged, Short.HasShortLabels};
 ghost use Rattle.entity_rdf.specs.Dump.{dump};
 
 use crate::room::room;

@@ -2,14 +2,10 @@
 
 ghost use Rattle.std.specs.Prelude.{◌↔◌, ℕ};
 ghost use Rattle.rising.specs.Rising.{In, sorted};
-ghost use Rattle.rdf_term.specs.declared.triple.Triple.{Triple};
-ghost use Rattle.rdf_term.specs.Order.{triple_cmp};
-ghost use Rattle.entity_model.specs.declared.id.EntityId.{EntityId};
-ghost use Rattle.entity_model.specs.declared.document.Document.{Document};
+ghost use Rattle.rdf_term.specs.{declared.triple.Triple.Triple, Order.triple_cmp};
+ghost use Rattle.entity_model.specs.{declared.id.EntityId.EntityId, declared.document.Document.Document};
 ghost use Rattle.entity_model.specs.declared.mapping.MappingVersion.{MappingVersion};
-ghost use Rattle.entity_rdf.specs.Dump.{dump};
-ghost use Rattle.entity_rdf.specs.Gives.{Gives};
-ghost use Rattle.entity_rdf.specs.Keeps.{Keeps};
+ghost use Rattle.entity_rdf.specs.{Dump.dump, Gives.Gives, Keeps.Keeps};
 ghost use Rattle.munger.specs.Munging.{munge};
 
 /// The triples of a document are exactly those that a rule of the dump format gives.

@@ -1,11 +1,9 @@
 // What the page of a property says of its predicates.
 
 ghost use Rattle.std.specs.Prelude.{◌≡◌, [], ◌∷◌, ◌++◌, IfOk, OnOk, map, string_bytes, encode_utf8, MatchOption};
-ghost use Rattle.std.specs.Option.{option_copied};
-ghost use Rattle.std.specs.List.{flat_map, list_all, slice_split};
+ghost use Rattle.std.specs.{Option.option_copied, List.flat_map, List.list_all, List.slice_split};
 ghost use Rattle.rdf_term.specs.Grammar.{is_word};
-ghost use Rattle.triple_sink.specs.Gains.{Gains, KeepsFront};
-ghost use Rattle.triple_sink.specs.TermRef.{meant};
+ghost use Rattle.triple_sink.specs.{Gains.Gains, Gains.KeepsFront, TermRef.meant};
 ghost use Rattle.entity_rdf.specs.Property.{capitalized, datatype_triples, is_datatype_char, is_hyphen, predicate_triple, predicate_triples, property_triples, type_name};
 
 use entity_model::{EntityId, IdKind};

@@ -5,8 +5,7 @@ ghost use Rattle.std.specs.List.{flat_map};
 ghost use Rattle.entity_model.specs.Document.{IsDocumentOf};
 ghost use Rattle.sitelinks.specs.Article.{article_triples};
 ghost use Rattle.triple_sink.specs.Gains.{Gains, KeepsFront};
-ghost use Rattle.entity_rdf.specs.Counted.{counted_spoken, counted_triples};
-ghost use Rattle.entity_rdf.specs.Dump.{dump, redirect_triples};
+ghost use Rattle.entity_rdf.specs.{Counted.counted_spoken, Counted.counted_triples, Dump.dump, Dump.redirect_triples};
 
 use crate::about::emit_texts;
 use crate::counted::{Counted, Counts};

@@ -1,9 +1,7 @@
 // The records of all entities.
 
 ghost use Rattle.std.specs.Prelude.{◌≡◌, ◌+◌, ◌^◌, ◌<◌, ◌≤◌, [], ◌∷◌, ◌++◌, None, IsTrue, OnOk, OnErr, IfOk, slice_get, length};
-ghost use Rattle.std.specs.Option.{option_copied};
-ghost use Rattle.std.specs.Ordering.{eq_by_cmp};
-ghost use Rattle.std.specs.List.{IsDistinct};
+ghost use Rattle.std.specs.{Option.option_copied, Ordering.eq_by_cmp, List.IsDistinct};
 ghost use Rattle.std.specs.FinMap as map;
 ghost use Rattle.indexmap.specs.IndexMap.{get, keys, spare, IsUnique};
 ghost use Rattle.rising.specs.Rising.{has};

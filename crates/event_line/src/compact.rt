@@ -4,12 +4,10 @@
 // read where it stands: no memory is taken, and no value is built. Any other line is passed over, and read as JSON.
 
 ghost use Rattle.std.specs.Prelude.{◌≡◌, ◌≢◌, ℕ, ◌<◌, ◌^◌, List, ◌++◌, decimal, Some, Ok, IfSome, MatchOption};
-ghost use Rattle.std.specs.List.{list_all};
-ghost use Rattle.std.specs.Str.{IsUtf8};
+ghost use Rattle.std.specs.{List.list_all, Str.IsUtf8};
 ghost use Rattle.entity_model.specs.IdOf.{id_of};
 ghost use Rattle.delivery.specs.declared.Delivery.TheVariants.{Event as Told};
-ghost use Rattle.event_line.specs.Compact.{compact_line, is_plain, kind_of, opening};
-ghost use Rattle.event_line.specs.Line.{delivery_of};
+ghost use Rattle.event_line.specs.{Compact.compact_line, Compact.is_plain, Compact.kind_of, Compact.opening, Line.delivery_of};
 
 use crate::time;
 use digits::starts_above_zero;

@@ -1,8 +1,7 @@
 // The texts of times.
 
 ghost use Rattle.std.specs.Prelude.{◌≡◌, ◌*◌, ◌-◌, ◌^◌, ◌<◌, ◌≤◌, length, ℤ, IsTrue, IfSome, Some};
-ghost use Rattle.std.specs.Char.{is_ascii_digit};
-ghost use Rattle.std.specs.List.{list_all};
+ghost use Rattle.std.specs.{Char.is_ascii_digit, List.list_all};
 ghost use Rattle.jiff_core.specs.Calendar.{IsEpochDay};
 ghost use Rattle.digits.specs.Number.{decimal_value};
 ghost use Rattle.event_line.specs.Time.{in_microseconds, four_digits, digits_below, day_of, day_number, second_of, microsecond_of, is_fraction, time_before_zone, time_of, IsTimeText};

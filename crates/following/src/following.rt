@@ -2,8 +2,7 @@
 
 ghost use Rattle.std.specs.Prelude.{◌≤◌, ◌≡◌, IfErr, IfSome, OnOk};
 ghost use Rattle.words.specs.Options.{follow_max_bytes_of};
-ghost use Rattle.following.specs.Following.{Ending, StoppedFollowing, follow_moment};
-ghost use Rattle.following.specs.Reading.{TakesLinesByNeed};
+ghost use Rattle.following.specs.{Following.Ending, Following.StoppedFollowing, Following.follow_moment, Reading.TakesLinesByNeed};
 
 use crate::printing::print_replica;
 use crate::stop::FollowStop;

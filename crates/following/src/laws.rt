@@ -3,16 +3,11 @@
 
 ghost use Rattle.std.specs.Prelude.{◌≡◌, ◌≤◌, ◌⊎◌, ℕ, List, length, Some, None};
 ghost use Rattle.wq_io.specs.Streams.{Rose};
-ghost use Rattle.replica.specs.declared.record.PatchRecord.{PatchRecord};
-ghost use Rattle.replica.specs.Laws.{IsGreatest};
+ghost use Rattle.replica.specs.{declared.record.PatchRecord.PatchRecord, Laws.IsGreatest};
 ghost use Rattle.words.specs.Options.{FollowChoices, follow_max_bytes_of};
-ghost use Rattle.following.specs.declared.stop.FollowStop.{FollowStop};
-ghost use Rattle.following.specs.declared.stop.RecordCause.{RecordCause};
+ghost use Rattle.following.specs.{declared.stop.FollowStop.FollowStop, declared.stop.RecordCause.RecordCause};
 ghost use Rattle.following.specs.Following.{Ending, FollowMoment, StoppedFollowing, follower_limit};
-ghost use Rattle.following.specs.Input.{Input};
-ghost use Rattle.following.specs.Reading.{AreRecords};
-ghost use Rattle.following.specs.Stop.{HasNoRoomForRecord, StandsAtLine};
-ghost use Rattle.following.specs.Taking.{HadRoom};
+ghost use Rattle.following.specs.{Input.Input, Reading.AreRecords, Stop.HasNoRoomForRecord, Stop.StandsAtLine, Taking.HadRoom};
 
 /// A follower ends with Ok or OutOfMemory if its input has the lines of records and is within the limit, each due record has room, and no
 /// read or write fails.

@@ -1,8 +1,7 @@
 // Why a follower stopped.
 
 ghost use Rattle.std.specs.Prelude.{◌≡◌};
-ghost use Rattle.following.specs.Stop.{stop_of_record};
-ghost use Rattle.following.specs.declared.stop.FollowStop.TheVariants.{OutOfMemory as Refused};
+ghost use Rattle.following.specs.{Stop.stop_of_record, declared.stop.FollowStop.TheVariants.OutOfMemory as Refused};
 
 use rdf_term::OutOfMemory;
 use replica::{PatchFault, ReplicaFault};

@@ -1,12 +1,8 @@
 // The lines of the input are taken one by one, and each record as soon as its last line was read.
 
 ghost use Rattle.std.specs.Prelude.{◌≡◌, ◌≤◌, ◌^◌, ◌∷◌, ◌++◌, [], IfErr, IfSome, List, OnOk};
-ghost use Rattle.replica.specs.declared.record.PatchRecord.{PatchRecord as TheRecord};
-ghost use Rattle.replica.specs.Record.{IsSound};
-ghost use Rattle.replica.specs.Replica.{nothing_received};
-ghost use Rattle.following.specs.Input.{input};
-ghost use Rattle.following.specs.Reading.{TakesLinesByNeed};
-ghost use Rattle.following.specs.Stop.{HeldUp, TakingStopped, StopsAtLine};
+ghost use Rattle.replica.specs.{declared.record.PatchRecord.PatchRecord as TheRecord, Record.IsSound, Replica.nothing_received};
+ghost use Rattle.following.specs.{Input.input, Reading.TakesLinesByNeed, Stop.HeldUp, Stop.TakingStopped, Stop.StopsAtLine};
 ghost use Rattle.following.specs.Taking.{HasApplied, HasReceived, HasTakenRecords, IsRecordOverfull, AppliesLine, TakesRecord};
 
 use crate::stop::{FollowStop, RecordCause};

@@ -1,8 +1,7 @@
 // Routes are read from a text.
 
 ghost use Rattle.std.specs.Prelude.{◌≡◌, ◌<◌, ◌&&◌, nat_le, length, IfOk};
-ghost use Rattle.std.specs.List.{list_all, list_any};
-ghost use Rattle.std.specs.Str.{bytes_eq};
+ghost use Rattle.std.specs.{List.list_all, List.list_any, Str.bytes_eq};
 ghost use Rattle.graph_routes.specs.Reading.{classes_of, item_of, pieces, read_each, route_in, routes_in};
 ghost use Rattle.graph_routes.specs.Routes.{have_own_names, is_letter, is_name};
 

@@ -1,8 +1,7 @@
 // Routes of entities to graphs.
 
 ghost use Rattle.std.specs.Prelude.{◌≡◌, ◌↔◌, ◌+◌, ◌≤◌, List, length, IfOk, Some};
-ghost use Rattle.graph_routes.specs.declared.routes.Route.{Route as TheRoute};
-ghost use Rattle.graph_routes.specs.Routes.{AreRoutesIn, graph_name};
+ghost use Rattle.graph_routes.specs.{declared.routes.Route.Route as TheRoute, Routes.AreRoutesIn, Routes.graph_name};
 
 use crate::reading::read_routes;
 use base::{List, OutOfMemory, Text};
@@ -25,8 +24,7 @@ pub struct Routes {
 
 impl Model for Routes {
     ghost use Rattle.std.specs.Prelude.{List};
-    ghost use Rattle.graph_routes.specs.declared.routes.Route.{Route};
-    ghost use Rattle.graph_routes.specs.Routes.{AreRoutes};
+    ghost use Rattle.graph_routes.specs.{declared.routes.Route.Route, Routes.AreRoutes};
 
     ghost Value = { List Route };
 

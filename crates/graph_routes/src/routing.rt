@@ -1,8 +1,7 @@
 // The graph that a document goes to.
 
 ghost use Rattle.std.specs.Prelude.{◌≡◌, ◌≤◌, ◌++◌, length, map, IfOk, OnOk};
-ghost use Rattle.std.specs.List.{position_or_len};
-ghost use Rattle.std.specs.Option.{option_to_list};
+ghost use Rattle.std.specs.{List.position_or_len, Option.option_to_list};
 ghost use Rattle.graph_routes.specs.Routing.{class_if, class_of, classes_said, leads, route_of};
 ghost use Rattle.statement_rdf.specs.Ranking.{is_best};
 

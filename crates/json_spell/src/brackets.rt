@@ -1,14 +1,10 @@
 // Steps over a value in brackets without reading it: from bracket to bracket, and over each string at once.
 
 ghost use Rattle.std.specs.Prelude.{◌≡◌, ◌≤◌, ℕ, List, length, map, take, true, Some, IfSome};
-ghost use Rattle.std.specs.List.{prefix_len};
-ghost use Rattle.std.specs.Simd.Lanes.{mask_l};
+ghost use Rattle.std.specs.{List.prefix_len, Simd.Lanes.mask_l};
 ghost use Rattle.json_spell.specs.declared.deep.Position.TheVariants.{Outside, Inside};
-ghost use Rattle.json_spell.specs.Brackets.{is_inner, is_mark, parts_strings, past_from};
-ghost use Rattle.json_spell.specs.Closed.{ends_itself};
-ghost use Rattle.json_spell.specs.Nesting.{Nests};
-ghost use Rattle.json_spell.specs.Reading.{skip, value_at};
-ghost use Rattle.json_spell.specs.Tree.{Tree};
+ghost use Rattle.json_spell.specs.{Brackets.is_inner, Brackets.is_mark, Brackets.parts_strings, Brackets.past_from, Closed.ends_itself};
+ghost use Rattle.json_spell.specs.{Nesting.Nests, Reading.skip, Reading.value_at, Tree.Tree};
 
 use crate::bytes::{after_byte, next, past};
 use crate::deep::is_opening;

@@ -3,13 +3,8 @@
 ghost use Rattle.std.specs.Prelude.{◌≡◌, ◌≤◌, ◌<◌, ◌∷◌, length, false, None, Some, IfSome};
 ghost use Rattle.json_spell.specs.Differing.{AreLess, Differs, Inside, InTurn};
 ghost use Rattle.json_spell.specs.Found.{AreDiffering, AreFound, AreNamed, MemberFound, MembersFound};
-ghost use Rattle.json_spell.specs.Reading.{after_byte, skip, spaced, value_at};
-ghost use Rattle.json_spell.specs.Grammar.{is_ws};
-ghost use Rattle.json_spell.specs.Nesting.{Nests};
-ghost use Rattle.json_spell.specs.Readable.{HasMember, HasMembers, HasValue};
-ghost use Rattle.json_spell.specs.Tree.{Tree};
-ghost use Rattle.json_spell.specs.Deep.{IsDeep};
-ghost use Rattle.json_spell.specs.Grammar.{Reads};
+ghost use Rattle.json_spell.specs.{Reading.after_byte, Reading.skip, Reading.spaced, Reading.value_at, Grammar.is_ws, Nesting.Nests};
+ghost use Rattle.json_spell.specs.{Readable.HasMember, Readable.HasMembers, Readable.HasValue, Tree.Tree, Deep.IsDeep, Grammar.Reads};
 ghost use Rattle.json_spell.specs.View.{json_view, member_view};
 
 use crate::alike::are_alike;

@@ -1,8 +1,7 @@
 // JSON values, and the look-up of a member.
 
 ghost use Rattle.std.specs.Prelude.{◌≡◌, option_map, reverse};
-ghost use Rattle.std.specs.List.{find};
-ghost use Rattle.std.specs.Str.{bytes_eq};
+ghost use Rattle.std.specs.{List.find, Str.bytes_eq};
 
 /// A JSON value: RFC 8259, section 3. A number is kept as it is spelled, and an object keeps its members in the
 /// order of the text, with each that repeats a name. Names, numbers and strings without an escape are parts of the text
@@ -45,8 +44,7 @@ fn last_with_key<'m, 'b, 'a>(members: &'m [Member<'b, 'a>], key: &str) -> Option
 
 impl<'b, 'a> Json<'b, 'a> {
     ghost use Rattle.std.specs.Prelude.{◌≡◌, option_map};
-    ghost use Rattle.json_spell.specs.Tree.{member_of};
-    ghost use Rattle.json_spell.specs.View.{json_view};
+    ghost use Rattle.json_spell.specs.{Tree.member_of, View.json_view};
 
     /// The value of the last member with the name; none where there is no such member or the value is no object. Of
     /// members that repeat a name many readers take the last one: RFC 8259, section 4.

@@ -1,10 +1,7 @@
 // Values that a text may have as another text has them.
 
 ghost use Rattle.std.specs.Prelude.{◌≡◌, ◌≤◌, length, true, Some, IfSome};
-ghost use Rattle.json_spell.specs.Tree.{Tree};
-ghost use Rattle.json_spell.specs.Closed.{ends_itself};
-ghost use Rattle.json_spell.specs.Grammar.{IsValue};
-ghost use Rattle.json_spell.specs.Reading.{spaced, value_at};
+ghost use Rattle.json_spell.specs.{Tree.Tree, Closed.ends_itself, Grammar.IsValue, Reading.spaced, Reading.value_at};
 
 use crate::bytes::skip_ws;
 

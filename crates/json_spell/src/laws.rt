@@ -2,10 +2,7 @@
 
 ghost use Rattle.std.specs.Prelude.{◌≡◌, ℕ, ◌≤◌, List, length, true};
 ghost use Rattle.std.specs.Str.{IsUtf8};
-ghost use Rattle.json_spell.specs.Tree.{Tree};
-ghost use Rattle.json_spell.specs.Grammar.{Reads};
-ghost use Rattle.json_spell.specs.Nesting.{Nests};
-ghost use Rattle.json_spell.specs.Deep.{IsDeep};
+ghost use Rattle.json_spell.specs.{Tree.Tree, Grammar.Reads, Nesting.Nests, Deep.IsDeep};
 ghost use Rattle.json_spell.specs.Weight.{weight, weights_at, are_distinct};
 
 /// A text has at most one value.

@@ -2,8 +2,7 @@
 
 ghost use Rattle.std.specs.Prelude.{All, ◌≡◌, ◌<◌, ◌≤◌, true, length, map, take, Some, IfSome, IfOk, OnOk};
 ghost use Rattle.merging.specs.Merging.{Changes, Merges};
-ghost use Rattle.json_spell.specs.Differing.{AreApart, Members, has_name};
-ghost use Rattle.json_spell.specs.Spelled.{HasTwin, spelled_view};
+ghost use Rattle.json_spell.specs.{Differing.AreApart, Differing.Members, Differing.has_name, Spelled.HasTwin, Spelled.spelled_view};
 ghost use Rattle.json_spell.specs.View.{json_view, member_view};
 
 use crate::json::{Json, Member};

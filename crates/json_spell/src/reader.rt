@@ -1,7 +1,6 @@
 // Reads a whole text.
 
-ghost use Rattle.json_spell.specs.Answers.{Answers, Faults};
-ghost use Rattle.json_spell.specs.Tells.{Excuses, Tells};
+ghost use Rattle.json_spell.specs.{Answers.Answers, Answers.Faults, Tells.Excuses, Tells.Tells};
 
 use crate::deep::is_deep;
 use crate::fault::JsonFault;

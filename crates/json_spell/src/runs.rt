@@ -1,10 +1,8 @@
 // Steps over the bytes of a string that are ASCII and stand for themselves, sixteen at a time.
 
 ghost use Rattle.std.specs.Prelude.{◌≡◌, ◌≤◌, length, map, take};
-ghost use Rattle.std.specs.List.{prefix_len};
-ghost use Rattle.std.specs.Simd.Lanes.{mask_l};
-ghost use Rattle.json_spell.specs.Reading.{skip};
-ghost use Rattle.json_spell.specs.Runs.{is_stop, is_plain};
+ghost use Rattle.std.specs.{List.prefix_len, Simd.Lanes.mask_l};
+ghost use Rattle.json_spell.specs.{Reading.skip, Runs.is_stop, Runs.is_plain};
 
 use crate::bytes::past;
 use std::simd::prelude::*;

@@ -2,11 +2,9 @@
 // promised holds where the object is one.
 
 ghost use Rattle.std.specs.Prelude.{All, ◌≡◌, ◌≤◌, ℕ, IsTrue, length, map, Some, IfSome, IfOk};
-ghost use Rattle.json_spell.specs.Tree.{no_pairs};
-ghost use Rattle.json_spell.specs.Readable.{HasMember, HasMembers, HasValue};
+ghost use Rattle.json_spell.specs.{Tree.no_pairs, Readable.HasMember, Readable.HasMembers, Readable.HasValue};
 ghost use Rattle.json_spell.specs.Spelled.{IsEnclosed, IsKnown, spelled_view, tree_of};
-ghost use Rattle.json_spell.specs.Reading.{list_by, member_by, members_at, spaced, value_at};
-ghost use Rattle.json_spell.specs.View.{pairs_of};
+ghost use Rattle.json_spell.specs.{Reading.list_by, Reading.member_by, Reading.members_at, Reading.spaced, Reading.value_at, View.pairs_of};
 
 use crate::brackets::past_value;
 use crate::bytes::{after_byte, before, next, skip_ws};

@@ -4,8 +4,7 @@ ghost use Rattle.std.specs.Prelude.{All, ◌≡◌, ◌<◌, ◌≤◌, ℕ, len
 ghost use Rattle.json_spell.specs.Tree.{no_pairs};
 ghost use Rattle.json_spell.specs.Spelled.{HasTwin, IsAt, IsKnown, SpelledNests, spelled_view, tree_of};
 ghost use Rattle.json_spell.specs.Reading.{list_by, member_by, members_at, spaced, value_at};
-ghost use Rattle.json_spell.specs.Nesting.{MembersNest, Nests};
-ghost use Rattle.json_spell.specs.View.{pairs_of};
+ghost use Rattle.json_spell.specs.{Nesting.MembersNest, Nesting.Nests, View.pairs_of};
 
 use crate::bytes::{after_byte, before, next, skip_ws};
 use crate::fault::JsonFault;

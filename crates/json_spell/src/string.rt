@@ -4,10 +4,7 @@ ghost use Rattle.std.specs.Prelude.{◌≡◌, ◌≤◌, ◌<◌, ◌^◌, IsTr
 ghost use Rattle.std.specs.Char.{digit_value};
 ghost use Rattle.json_spell.specs.Text.{short_escape, code_unit, is_high_surrogate, is_low_surrogate};
 ghost use Rattle.json_spell.specs.Reading.{before, run_at, low_half, unicode_at, escape_at, content_at};
-ghost use Rattle.json_spell.specs.Content.{content_bytes};
-ghost use Rattle.json_spell.specs.Tree.{string};
-ghost use Rattle.json_spell.specs.View.{json_view};
-ghost use Rattle.json_spell.specs.Parses.{Parses};
+ghost use Rattle.json_spell.specs.{Content.content_bytes, Tree.string, View.json_view, Parses.Parses};
 
 use crate::bytes::{after_byte, before, next, skip_unescaped, text_of, utf8};
 use crate::fault::JsonFault;

@@ -1,11 +1,9 @@
 // Reads a value: RFC 8259, sections 3 to 5.
 
 ghost use Rattle.std.specs.Prelude.{◌≡◌, ◌≤◌, ◌<◌, ℕ, length, map, option_map, Some, IfSome, IfOk};
-ghost use Rattle.json_spell.specs.Tree.{no_trees, no_pairs};
-ghost use Rattle.json_spell.specs.View.{json_view, member_view, trees_of, pairs_of};
+ghost use Rattle.json_spell.specs.{Tree.no_trees, Tree.no_pairs, View.json_view, View.member_view, View.trees_of, View.pairs_of};
 ghost use Rattle.json_spell.specs.Reading.{ended, spaced, content_at, list_by, name_at, member_by, literal_at, scalar_at, value_at, values_at, members_at};
-ghost use Rattle.json_spell.specs.Parses.{Parses};
-ghost use Rattle.json_spell.specs.Nesting.{Nests, AllNest, MembersNest};
+ghost use Rattle.json_spell.specs.{Parses.Parses, Nesting.Nests, Nesting.AllNest, Nesting.MembersNest};
 
 use crate::bytes::{after_byte, after_word, next, skip_ws};
 use crate::fault::JsonFault;

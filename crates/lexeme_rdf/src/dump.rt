@@ -2,9 +2,8 @@
 
 ghost use Rattle.std.specs.Prelude.{◌≡◌, IfOk};
 ghost use Rattle.std.specs.List.{AllByRecursion, flat_map};
-ghost use Rattle.rdf_term.specs.Fit.{HasFitAndShortTerms};
+ghost use Rattle.rdf_term.specs.{Fit.HasFitAndShortTerms, Order.triple_cmp};
 ghost use Rattle.rising.specs.Rising.{sorted};
-ghost use Rattle.rdf_term.specs.Order.{triple_cmp};
 ghost use Rattle.munger.specs.Munging.{munge, munged};
 ghost use Rattle.entity_model.specs.Lexeme.{IsSmallLexeme};
 ghost use Rattle.lexeme_rdf.specs.Dump.{lexdump};

@@ -2,15 +2,11 @@
 
 ghost use Rattle.std.specs.Prelude.{◌↔◌, ℕ};
 ghost use Rattle.rising.specs.Rising.{In, sorted};
-ghost use Rattle.rdf_term.specs.declared.triple.Triple.{Triple};
-ghost use Rattle.rdf_term.specs.Order.{triple_cmp};
-ghost use Rattle.entity_model.specs.declared.id.EntityId.{EntityId};
-ghost use Rattle.entity_model.specs.declared.mapping.MappingVersion.{MappingVersion};
-ghost use Rattle.munger.specs.Munging.{munge};
+ghost use Rattle.rdf_term.specs.{declared.triple.Triple.Triple, Order.triple_cmp};
+ghost use Rattle.entity_model.specs.{declared.id.EntityId.EntityId, declared.mapping.MappingVersion.MappingVersion};
 ghost use Rattle.entity_model.specs.declared.lexeme.Lexeme.{Lexeme};
-ghost use Rattle.lexeme_rdf.specs.Dump.{lexdump};
-ghost use Rattle.lexeme_rdf.specs.Gives.{LexemeGives};
-ghost use Rattle.lexeme_rdf.specs.Keeps.{LexemeKeeps};
+ghost use Rattle.munger.specs.Munging.{munge};
+ghost use Rattle.lexeme_rdf.specs.{Dump.lexdump, Gives.LexemeGives, Keeps.LexemeKeeps};
 
 /// The triples of a lexeme are exactly those that a rule of the dump gives.
 pub fn lexeme_triples_are_given()

@@ -2,10 +2,8 @@
 
 ghost use Rattle.std.specs.Prelude.{OnOk};
 ghost use Rattle.std.specs.List.{flat_map};
-ghost use Rattle.triple_sink.specs.Gains.{Gains, KeepsFront};
-ghost use Rattle.triple_sink.specs.TermRef.{meant};
-ghost use Rattle.lexeme_rdf.specs.Form.{feature_triples};
-ghost use Rattle.lexeme_rdf.specs.Parts.{head_of, triples_of};
+ghost use Rattle.triple_sink.specs.{Gains.Gains, Gains.KeepsFront, TermRef.meant};
+ghost use Rattle.lexeme_rdf.specs.{Form.feature_triples, Parts.head_of, Parts.triples_of};
 
 use crate::texts::emit_texts;
 use entity_model::{EntityId, Part};

@@ -16,12 +16,12 @@ is_moved predicate =
     || is_predicate Sitelinks predicate || is_predicate Identifiers predicate
 
 -- the class of items, of statements or of references
-abbrev pub is_untold : Term → Bool
-is_untold class = is_resource Item class || is_resource Statement class || is_resource Reference class
+abbrev pub is_dropped_class : Term → Bool
+is_dropped_class class = is_resource Item class || is_resource Statement class || is_resource Reference class
 
 -- the type of an item, a statement or a reference
-abbrev pub has_untold_type : Triple → Bool
-has_untold_type triple = is_predicate RdfType triple.predicate && is_untold triple.object
+abbrev pub has_dropped_type : Triple → Bool
+has_dropped_type triple = is_predicate RdfType triple.predicate && is_dropped_class triple.object
 
 -- skos:prefLabel and schema:name, which say again what rdfs:label says
 abbrev pub is_other_name : Term → Bool
@@ -32,10 +32,10 @@ abbrev pub repeats_label : EntityId → Triple → Bool
 repeats_label id triple =
     is_iri_of (entity_iri id) triple.subject && is_other_name triple.predicate
 
--- of the dataset's triples some are moved to the entity and the others dropped; then untold types and repeated labels are dropped
+-- of the dataset's triples some are moved to the entity and the others dropped; then these types and repeated labels are dropped
 abbrev pub verdict : EntityId → Triple → Verdict
 verdict id triple =
     if is_iri_of (dataset_iri id) triple.subject then (if is_moved triple.predicate then Moved else Dropped)
-    else (if has_untold_type triple then Dropped
+    else (if has_dropped_type triple then Dropped
     else (if repeats_label id triple then Dropped
     else Kept))

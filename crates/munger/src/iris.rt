@@ -2,8 +2,7 @@
 
 ghost use Rattle.std.specs.Prelude.{◌≡◌, ◌≢◌, ℕ, List, ◌++◌, decimal, MatchOption};
 ghost use Rattle.std.specs.Str.{bytes_eq};
-ghost use Rattle.entity_model.specs.EntityId.{id_text};
-ghost use Rattle.entity_model.specs.IdKind.{letter_of};
+ghost use Rattle.entity_model.specs.{EntityId.id_text, IdKind.letter_of};
 ghost use Rattle.triple_sink.specs.TermRef.{meant};
 ghost use Rattle.munger.specs.Iris.{is_iri_of, is_predicate, is_resource};
 

@@ -3,8 +3,7 @@
 ghost use Rattle.std.specs.Prelude.{◌≡◌, IfOk};
 ghost use Rattle.std.specs.List.{AllByRecursion, flat_map};
 ghost use Rattle.rdf_term.specs.Fit.{HasFitAndShortTerms};
-ghost use Rattle.munger.specs.Munging.{munge, munged};
-ghost use Rattle.munger.specs.Short.{HasShortLabels, HasShortTerms};
+ghost use Rattle.munger.specs.{Munging.munge, Munging.munged, Short.HasShortLabels, Short.HasShortTerms};
 
 use crate::sink::Munged;
 use crate::verdict::Page;

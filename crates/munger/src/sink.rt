@@ -2,11 +2,8 @@
 
 ghost use Rattle.std.specs.Prelude.{◌≡◌, [], ◌∷◌, OnOk};
 ghost use Rattle.std.specs.List.{flat_map};
-ghost use Rattle.triple_sink.specs.Gains.{Gains, KeepsFront};
-ghost use Rattle.triple_sink.specs.Subject.{IsKnown};
-ghost use Rattle.triple_sink.specs.TermRef.{meant, meant_triple};
-ghost use Rattle.munger.specs.Munging.{munged};
-ghost use Rattle.munger.specs.Naming.{named, named_triple};
+ghost use Rattle.triple_sink.specs.{Gains.Gains, Gains.KeepsFront, Subject.IsKnown, TermRef.meant, TermRef.meant_triple};
+ghost use Rattle.munger.specs.{Munging.munged, Naming.named, Naming.named_triple};
 
 use crate::naming::{is_blank, named};
 use crate::verdict::{Page, Verdict};

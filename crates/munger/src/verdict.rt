@@ -1,12 +1,10 @@
 // What becomes of a triple.
 
 ghost use Rattle.std.specs.Prelude.{◌≡◌, ◌++◌, IfOk};
-ghost use Rattle.rdf_vocabulary.specs.Predicate.{predicate_term};
-ghost use Rattle.rdf_vocabulary.specs.Prefix.{prefix_text};
-ghost use Rattle.rdf_vocabulary.specs.Resource.{resource_term};
+ghost use Rattle.rdf_vocabulary.specs.{Predicate.predicate_term, Prefix.prefix_text, Resource.resource_term};
 ghost use Rattle.triple_sink.specs.TermRef.{meant, meant_triple};
 ghost use Rattle.munger.specs.Iris.{dataset_iri, entity_iri, is_data, is_iri_of, is_predicate};
-ghost use Rattle.munger.specs.Verdict.{has_untold_type, is_moved, is_other_name, is_untold};
+ghost use Rattle.munger.specs.Verdict.{has_dropped_type, is_moved, is_other_name, is_dropped_class};
 
 use crate::iris::{is_iri_of, is_predicate, is_resource};
 use entity_model::EntityId;
@@ -76,7 +74,7 @@ impl Page {
         if let TermRef::Id(_, _) | TermRef::Named(_, _) = predicate {
             return Verdict::Kept;
         }
-        if has_untold_type(subject, predicate, object)
+        if has_dropped_type(subject, predicate, object)
             || self.repeats_label(subject, predicate, object)
         {
             return Verdict::Dropped;
@@ -153,11 +151,11 @@ fn moves(word: Predicate) -> bool
 }
 
 // Whether the triple has a type that is dropped.
-fn has_untold_type(subject: &TermRef<'_>, predicate: &TermRef<'_>, object: &TermRef<'_>) -> bool
-    ensures { result ≡ has_untold_type (meant_triple subject.now predicate.now object.now) }
+fn has_dropped_type(subject: &TermRef<'_>, predicate: &TermRef<'_>, object: &TermRef<'_>) -> bool
+    ensures { result ≡ has_dropped_type (meant_triple subject.now predicate.now object.now) }
 {
     let _subject = subject;
-    is_type(predicate) && is_untold(object)
+    is_type(predicate) && is_dropped_class(object)
 }
 
 // Whether the predicate says the type of a node.
@@ -179,11 +177,11 @@ fn tells_type(word: Predicate) -> bool
 }
 
 // Whether the term is a type that is dropped.
-fn is_untold(class: &TermRef<'_>) -> bool
-    ensures { result ≡ is_untold (meant class.now) }
+fn is_dropped_class(class: &TermRef<'_>) -> bool
+    ensures { result ≡ is_dropped_class (meant class.now) }
 {
     match class {
-        TermRef::Resource(word) => is_untold_word(*word),
+        TermRef::Resource(word) => is_dropped_word(*word),
         _ => {
             is_resource(class, Resource::Item)
                 || is_resource(class, Resource::Statement)
@@ -194,8 +192,8 @@ fn is_untold(class: &TermRef<'_>) -> bool
 
 // Whether the word is a type that is dropped.
 #[tactic(auto, unfolding(rdf_vocabulary::specs::Resource::resource_text))]
-fn is_untold_word(word: Resource) -> bool
-    ensures { result ≡ is_untold (resource_term word) }
+fn is_dropped_word(word: Resource) -> bool
+    ensures { result ≡ is_dropped_class (resource_term word) }
 {
     matches!(
         word,

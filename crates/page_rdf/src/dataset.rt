@@ -3,8 +3,7 @@
 ghost use Rattle.std.specs.Prelude.{◌≡◌, [], ◌∷◌, OnOk};
 ghost use Rattle.std.specs.Option.{option_copied};
 ghost use Rattle.rdf_vocabulary.specs.Predicate.{about};
-ghost use Rattle.triple_sink.specs.Gains.{Gains, KeepsFront};
-ghost use Rattle.triple_sink.specs.TermRef.{meant};
+ghost use Rattle.triple_sink.specs.{Gains.Gains, Gains.KeepsFront, TermRef.meant};
 ghost use Rattle.rdf_term.specs.declared.term.Term.TheVariants.{Plain};
 ghost use Rattle.page_rdf.specs.Dataset.{change_triples, format_version, identifiers, is_identifier, number_term, number_triples, page_triples};
 

@@ -2,9 +2,8 @@
 
 ghost use Rattle.std.specs.Prelude.{◌≡◌, ◌<◌, length, map, slice_index, OnOk};
 ghost use Rattle.std.specs.List.{flat_map};
-ghost use Rattle.triple_sink.specs.Gains.{Gains, KeepsFront};
+ghost use Rattle.triple_sink.specs.{Gains.Gains, Gains.KeepsFront, TermRef.meant};
 ghost use Rattle.statement_rdf.specs.Ranking.{is_best};
-ghost use Rattle.triple_sink.specs.TermRef.{meant};
 ghost use Rattle.page_rdf.specs.Statements.{judged_triples, statements_triples};
 
 use entity_model::Statement;

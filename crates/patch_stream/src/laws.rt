@@ -2,17 +2,12 @@
 
 ghost use Rattle.std.specs.Prelude.{◌≡◌, ◌↔◌, ◌+◌, ◌*◌, ◌<◌, ◌≤◌, ◌^◌, ℕ, false, is_some, length, List, [], Option};
 ghost use Rattle.rising.specs.Rising.{Each, In, IsRising};
-ghost use Rattle.rdf_term.specs.declared.triple.Triple.{Triple};
-ghost use Rattle.rdf_term.specs.Order.{triple_cmp};
+ghost use Rattle.rdf_term.specs.{declared.triple.Triple.Triple, Order.triple_cmp};
 ghost use Rattle.delivery.specs.declared.Delivery.{Delivery};
-ghost use Rattle.replay_model.specs.Acceptance.{version_in_force};
-ghost use Rattle.replay_model.specs.Play.{Replies, play_to_end};
-ghost use Rattle.replay_model.specs.Union.{union};
+ghost use Rattle.replay_model.specs.{Acceptance.version_in_force, Play.Replies, Play.play_to_end, Union.union};
 ghost use Rattle.triple_store.specs.declared.telling.Change.{Change};
-ghost use Rattle.world.specs.Changing.{IsChangeOf};
-ghost use Rattle.world.specs.Meaning.{meaning};
-ghost use Rattle.replica.specs.declared.record.PatchRecord.{PatchRecord};
-ghost use Rattle.replica.specs.Record.{record_text};
+ghost use Rattle.world.specs.{Changing.IsChangeOf, Meaning.meaning};
+ghost use Rattle.replica.specs.{declared.record.PatchRecord.PatchRecord, Record.record_text};
 ghost use Rattle.replica.specs.Replica.{Follows, ReplicaState, numbered};
 ghost use Rattle.patch_stream.specs.Laws.{AreOfStream, CanBeRead, HasWritableSides, IsChain};
 ghost use Rattle.patch_stream.specs.Stream.{change_text, is_change, record_of_step, step, steps_to_end, stream};

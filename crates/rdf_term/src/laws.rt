@@ -2,13 +2,8 @@
 
 ghost use Rattle.std.specs.Prelude.{◌≡◌, ◌↔◌, ℕ, List, Some, true};
 ghost use Rattle.rising.specs.Rising.{In, sorted};
-ghost use Rattle.rdf_term.specs.declared.term.Term.{Term};
-ghost use Rattle.rdf_term.specs.declared.triple.Triple.{Triple};
-ghost use Rattle.rdf_term.specs.Fit.{is_fit};
-ghost use Rattle.rdf_term.specs.Order.{triple_cmp};
-ghost use Rattle.rdf_term.specs.Reader.{read};
-ghost use Rattle.rdf_term.specs.Text.{term_text};
-ghost use Rattle.rdf_term.specs.Written.{IsWritten};
+ghost use Rattle.rdf_term.specs.{declared.term.Term.Term, declared.triple.Triple.Triple, Fit.is_fit, Order.triple_cmp, Reader.read};
+ghost use Rattle.rdf_term.specs.{Text.term_text, Written.IsWritten};
 
 /// Reading gives exactly the terms that a text writes by the grammar of N-Triples.
 #[tactic(auto, using(crate::proofs::Reading::reads))]

@@ -2,8 +2,7 @@
 
 ghost use Rattle.std.specs.Prelude.{◌≡◌, ◌++◌, ◌∷◌, [], length, min, slice_index};
 ghost use Rattle.std.specs.Ordering.{ordering_then};
-ghost use Rattle.rdf_term.specs.Order.{bytes_cmp, term_cmp, triple_cmp};
-ghost use Rattle.rdf_term.specs.Text.{escaped, escaped_byte};
+ghost use Rattle.rdf_term.specs.{Order.bytes_cmp, Order.term_cmp, Order.triple_cmp, Text.escaped, Text.escaped_byte};
 
 use crate::escape::escape_of;
 use crate::term::Term;

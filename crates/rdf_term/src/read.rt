@@ -2,11 +2,9 @@
 
 ghost use Rattle.std.specs.Prelude.{◌≡◌, ◌↔◌, IfOk, IfSome, Some, true};
 ghost use Rattle.std.specs.Option.{option_map};
-ghost use Rattle.rdf_term.specs.declared.term.Term.{Term};
-ghost use Rattle.rdf_term.specs.Fit.{is_fit};
+ghost use Rattle.rdf_term.specs.{declared.term.Term.Term, Fit.is_fit};
 ghost use Rattle.rdf_term.specs.Reader.{behind, blank_in, iri_in, literal_in, literal_with, read, split_ascii, typed_in};
-ghost use Rattle.rdf_term.specs.Text.{term_text};
-ghost use Rattle.rdf_term.specs.Written.{IsWritten, literal_of_type};
+ghost use Rattle.rdf_term.specs.{Text.term_text, Written.IsWritten, Written.literal_of_type};
 
 use crate::content::{Enclosure, content};
 use crate::label::is_label;

@@ -1,9 +1,7 @@
 // Language tags, and the literals that have one.
 
 ghost use Rattle.std.specs.Prelude.{◌≡◌, IfOk, true};
-ghost use Rattle.rdf_term.specs.Fit.{is_fit};
-ghost use Rattle.rdf_term.specs.Grammar.{is_tag, tagged_of};
-ghost use Rattle.rdf_term.specs.TagReader.{is_end, tag_state_after};
+ghost use Rattle.rdf_term.specs.{Fit.is_fit, Grammar.is_tag, Grammar.tagged_of, TagReader.is_end, TagReader.tag_state_after};
 
 use crate::term::Term;
 use base::{OutOfMemory, Text};

@@ -16,8 +16,7 @@ pub struct TripleSet {
 impl Model for TripleSet {
     ghost use Rattle.std.specs.Prelude.{List};
     ghost use Rattle.rising.specs.Rising.{IsRising};
-    ghost use Rattle.rdf_term.specs.declared.triple.Triple.{Triple};
-    ghost use Rattle.rdf_term.specs.Order.{triple_cmp};
+    ghost use Rattle.rdf_term.specs.{declared.triple.Triple.Triple, Order.triple_cmp};
 
     ghost Value = { List Triple };
 

@@ -3,8 +3,8 @@
 ghost use Rattle.std.specs.Prelude.{◌≡◌, ◌++◌, ◌∷◌, [], OnOk, OnErr};
 ghost use Rattle.std.specs.Str.{IsUtf8};
 ghost use Rattle.rdf_term.specs.declared.term.Term.{Term};
-ghost use Rattle.base.specs.Append.{Appends};
 ghost use Rattle.rdf_term.specs.Text.{escaped, escaped_byte, in_brackets, quoted, spaced, term_text, triple_text};
+ghost use Rattle.base.specs.Append.{Appends};
 
 use crate::escape::{escape_of, has_escape};
 use crate::term::Term;

@@ -1,9 +1,7 @@
 // The reorder buffer.
 
 ghost use Rattle.std.specs.Prelude.{◌≡◌, false, Some, length, OnOk, OnErr, IfOk, IsSome, IfSome, All};
-ghost use Rattle.std.specs.List.{list_any};
-ghost use Rattle.std.specs.Option.{option_copied};
-ghost use Rattle.std.specs.BTreeMap.Range.{IsLeBy};
+ghost use Rattle.std.specs.{List.list_any, Option.option_copied, BTreeMap.Range.IsLeBy};
 ghost use Rattle.entity_model.specs.Event.{event_cmp};
 ghost use Rattle.reorder_buffer.specs.Watermarks.{floor, is_below, is_due};
 ghost use Rattle.reorder_buffer.specs.Buffered.{nothing_taken, nothing_taken_within, answer_to, after_taking, after_raising, after_closing, first_due, after_dropping, unforgotten};

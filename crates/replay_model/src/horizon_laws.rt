@@ -2,15 +2,13 @@
 
 ghost use Rattle.std.specs.Prelude.{◌≡◌, ℕ, ℤ, Bool, not, ◌&&◌, cond, List, [], ◌∷◌, ◌++◌, Option, None, filter, is_none};
 ghost use Rattle.rising.specs.Rising.{has};
-ghost use Rattle.entity_model.specs.declared.event.Event.{Event};
-ghost use Rattle.entity_model.specs.Event.{event_cmp};
+ghost use Rattle.entity_model.specs.{declared.event.Event.Event, Event.event_cmp};
 ghost use Rattle.delivery.specs.declared.Delivery.{Delivery};
 ghost use Rattle.reorder_buffer.specs.declared.taken.Taken.TheVariants.{New, Repeat, Late};
 ghost use Rattle.reorder_buffer.specs.Buffered.{Buffered, nothing_taken_within, answer_to, after_taking, after_raising, after_closing, after_dropping};
 ghost use Rattle.reorder_buffer.specs.Watermarks.{floor, is_below};
 ghost use Rattle.replay_model.specs.Acceptance.{accepted, due, events, is_late, is_repeat, known, late, mark};
-ghost use Rattle.replay_model.specs.Entries.{late_event};
-ghost use Rattle.replay_model.specs.Play.{Replies, fetches, fetches_to_end, played};
+ghost use Rattle.replay_model.specs.{Entries.late_event, Play.Replies, Play.fetches, Play.fetches_to_end, Play.played};
 ghost use Rattle.replay_model.specs.ReplayState.{HasTakenIn, following};
 
 /// A horizon changes late entries alone: the accepted events are those without one, and so are the records, from which

@@ -3,17 +3,14 @@
 ghost use Rattle.std.specs.Prelude.{◌≡◌, ℕ, Bool, true, false, not, List, ◌∷◌, ◌++◌, Option, None};
 ghost use Rattle.std.specs.List.{list_any};
 ghost use Rattle.rising.specs.Rising.{has};
-ghost use Rattle.entity_model.specs.declared.event.Event.{Event};
-ghost use Rattle.entity_model.specs.declared.id.EntityId.{EntityId};
-ghost use Rattle.entity_model.specs.Event.{event_cmp};
-ghost use Rattle.entity_state.specs.State.{is_kept};
+ghost use Rattle.entity_model.specs.{declared.event.Event.Event, declared.id.EntityId.EntityId, Event.event_cmp};
+ghost use Rattle.entity_state.specs.{State.is_kept, Standing.is_reconciliation};
 ghost use Rattle.side_output.specs.declared.entry.Entry.{Entry};
 ghost use Rattle.delivery.specs.declared.Delivery.{Delivery};
 ghost use Rattle.replay_model.specs.Acceptance.{accepted, late, due, known};
 ghost use Rattle.replay_model.specs.Entries.{HoldsUnlessOpen, late_events, is_later, is_open_by, is_open_late, has_open_revision};
 ghost use Rattle.replay_model.specs.Fate.{fate, events_of, in_order};
 ghost use Rattle.replay_model.specs.Play.{Played, Replies, apply, nothing_played, played, play_to_end};
-ghost use Rattle.entity_state.specs.Standing.{is_reconciliation};
 ghost use Rattle.replay_model.specs.Records.{record_of, is_settled};
 
 /// After each delivery and after the end, the state of each entity is the fate of its due events in their order.

@@ -2,14 +2,12 @@
 
 ghost use Rattle.std.specs.Prelude.{◌≡◌, ℕ, ◌+◌, cond, length, ℤ, Bool, true, Result, [], ◌∷◌, ◌++◌, List, Option, Some, None};
 ghost use Rattle.rising.specs.Rising.{Each};
-ghost use Rattle.entity_model.specs.declared.event.Event.{Event};
-ghost use Rattle.entity_model.specs.declared.id.EntityId.{EntityId};
+ghost use Rattle.entity_model.specs.{declared.event.Event.Event, declared.id.EntityId.EntityId};
+ghost use Rattle.entity_model.specs.declared.mapping.MappingVersion.{MappingVersion};
 ghost use Rattle.side_output.specs.declared.entry.Cause.{Cause};
 ghost use Rattle.delivery.specs.declared.Delivery.{Delivery};
-ghost use Rattle.entity_model.specs.declared.mapping.MappingVersion.{MappingVersion};
 ghost use Rattle.reorder_buffer.specs.Buffered.{first_due};
-ghost use Rattle.replay_model.specs.Records.{Bytes, record_of};
-ghost use Rattle.replay_model.specs.Play.{Replies, Fetch, played};
+ghost use Rattle.replay_model.specs.{Records.Bytes, Records.record_of, Play.Replies, Play.Fetch, Play.played};
 ghost use Rattle.replay_model.specs.Replies.{GivesDocument, Judgement, source_replies, failed_events, HoldsWhatIsThere, TellsWhatIsThere};
 ghost use Rattle.replay_model.specs.ReplayState.{ReplayState, nothing_delivered_within, after_event, after_mark, after_end, after_applying, following, following_to_end};
 ghost use Rattle.replay_model.specs.Transcript.{Question, asking};

@@ -8,8 +8,7 @@ ghost use Rattle.reorder_buffer.specs.Buffered.{first_due};
 ghost use Rattle.replay_model.specs.Acceptance.{mapping_of, version_in_force};
 ghost use Rattle.replay_model.specs.Play.{Replies, fetches, fetches_to_end, risen_by};
 ghost use Rattle.replay_model.specs.ReplayState.{ReplayState, nothing_delivered_within, after_end, after_next, after_due, delivered, ended, following, following_to_end, fetches_next, fetches_due, fetches_delivered};
-ghost use Rattle.replay_model.specs.Transcript.{said, said_at};
-ghost use Rattle.replay_model.specs.Union.{Meaning};
+ghost use Rattle.replay_model.specs.{Transcript.said, Transcript.said_at, Union.Meaning};
 
 /// A replay that takes each delivery as it comes, with a horizon or none, has, after each and after the end, the state that the whole list
 /// gives, and no event is due in it.

@@ -1,18 +1,13 @@
 // The laws of the union and its owners.
 
 ghost use Rattle.std.specs.Prelude.{◌≡◌, ◌+◌, ℕ, List, Option, true, false, nat_lt};
-ghost use Rattle.std.specs.Cmp.{IsTotalOrder};
-ghost use Rattle.std.specs.declared.cmp.Ordering.{Ordering};
-ghost use Rattle.std.specs.FinMap.{insert};
+ghost use Rattle.std.specs.{Cmp.IsTotalOrder, declared.cmp.Ordering.Ordering, FinMap.insert};
 ghost use Rattle.rising.specs.Rising.{has, difference, IsRising};
 ghost use Rattle.delivery.specs.declared.Delivery.{Delivery};
-ghost use Rattle.entity_model.specs.declared.event.Event.{Event};
-ghost use Rattle.entity_model.specs.declared.id.EntityId.{EntityId};
-ghost use Rattle.entity_model.specs.declared.mapping.MappingVersion.{MappingVersion};
-ghost use Rattle.entity_model.specs.Event.{event_cmp};
+ghost use Rattle.entity_model.specs.{declared.event.Event.Event, declared.id.EntityId.EntityId};
+ghost use Rattle.entity_model.specs.{declared.mapping.MappingVersion.MappingVersion, Event.event_cmp};
 ghost use Rattle.entity_state.specs.declared.record.Record.{Record};
-ghost use Rattle.replay_model.specs.Acceptance.{accepted, version_in_force};
-ghost use Rattle.replay_model.specs.Play.{Replies, play_to_end};
+ghost use Rattle.replay_model.specs.{Acceptance.accepted, Acceptance.version_in_force, Play.Replies, Play.play_to_end};
 ghost use Rattle.replay_model.specs.Records.{Bytes, Records, record_of};
 ghost use Rattle.replay_model.specs.Union.{Meaning, triples_held, union, owners};
 

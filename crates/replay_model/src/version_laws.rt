@@ -3,13 +3,9 @@
 ghost use Rattle.std.specs.Prelude.{◌≡◌, ℕ, Bool, List, Option, true};
 ghost use Rattle.std.specs.declared.cmp.Ordering.{Ordering};
 ghost use Rattle.delivery.specs.declared.Delivery.{Delivery};
-ghost use Rattle.entity_model.specs.declared.id.EntityId.{EntityId};
-ghost use Rattle.entity_model.specs.declared.mapping.MappingVersion.{MappingVersion};
-ghost use Rattle.replay_model.specs.Acceptance.{version_in_force};
-ghost use Rattle.replay_model.specs.Play.{Replies, played};
-ghost use Rattle.replay_model.specs.PlayedVersions.{by_two_played};
-ghost use Rattle.replay_model.specs.Records.{Records, record_of};
-ghost use Rattle.replay_model.specs.Union.{Meaning, owners, triples_held, union};
+ghost use Rattle.entity_model.specs.{declared.id.EntityId.EntityId, declared.mapping.MappingVersion.MappingVersion};
+ghost use Rattle.replay_model.specs.{Acceptance.version_in_force, Play.Replies, Play.played, PlayedVersions.by_two_played};
+ghost use Rattle.replay_model.specs.{Records.Records, Records.record_of, Union.Meaning, Union.owners, Union.triples_held, Union.union};
 ghost use Rattle.replay_model.specs.Versions.{all_by, is_holder, meaning_by, version_at};
 
 /// The union and the owners depend on what the held pages mean, and on nothing else that a meaning says.

@@ -4,11 +4,9 @@ ghost use Rattle.std.specs.Prelude.{◌≡◌, ℕ, [], ◌++◌, List, Option, 
 ghost use Rattle.rdf_term.specs.declared.triple.Triple.{Triple};
 ghost use Rattle.delivery.specs.declared.Delivery.{Delivery};
 ghost use Rattle.entity_model.specs.declared.mapping.MappingVersion.{MappingVersion};
-ghost use Rattle.replay_model.specs.Acceptance.{mark};
-ghost use Rattle.replay_model.specs.Play.{Replies, fetches, fetches_to_end};
+ghost use Rattle.replay_model.specs.{Acceptance.mark, Play.Replies, Play.fetches, Play.fetches_to_end};
 ghost use Rattle.replay_model.specs.ReplayState.{delivered, ended, following, following_to_end};
-ghost use Rattle.replay_model.specs.Transcript.{Sections, said, transcript};
-ghost use Rattle.replay_model.specs.Union.{Meaning};
+ghost use Rattle.replay_model.specs.{Transcript.Sections, Transcript.said, Transcript.transcript, Union.Meaning};
 ghost use Rattle.replay_parts.specs.Checkpoint.{advanced_by, checkpoint, checkpoint_at_start, fetches_from, fetches_to_end_from, replies_of_runs, said_from, transcript_from};
 
 /// A replay goes on from a checkpoint: where two lists of deliveries lead is where the second leads from the checkpoint after the first,

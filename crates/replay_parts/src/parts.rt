@@ -1,25 +1,16 @@
 // The laws of a replay that is split by entity.
 
 ghost use Rattle.std.specs.Prelude.{◌≡◌, ◌↔◌, ℕ, Bool, true, false, not, ◌||◌, List, [], ◌∷◌, ◌++◌, Option, cond, None, flat_map, sum_by, count_by, ◌<◌};
-ghost use Rattle.std.specs.Cmp.{IsTotalOrder};
-ghost use Rattle.std.specs.FinMap.{get, IsAntisymmetric};
-ghost use Rattle.std.specs.List.{list_any};
-ghost use Rattle.std.specs.declared.cmp.Ordering.{Ordering};
+ghost use Rattle.std.specs.{Cmp.IsTotalOrder, FinMap.get, FinMap.IsAntisymmetric, List.list_any, declared.cmp.Ordering.Ordering};
 ghost use Rattle.rising.specs.Rising.{has};
-ghost use Rattle.rdf_term.specs.declared.pattern.Pattern.{Pattern};
-ghost use Rattle.rdf_term.specs.declared.triple.Triple.{Triple};
-ghost use Rattle.rdf_term.specs.Order.{triple_cmp};
+ghost use Rattle.rdf_term.specs.{declared.pattern.Pattern.Pattern, declared.triple.Triple.Triple, Order.triple_cmp};
 ghost use Rattle.delivery.specs.declared.Delivery.{Delivery};
-ghost use Rattle.entity_model.specs.declared.id.EntityId.{EntityId};
-ghost use Rattle.entity_model.specs.declared.mapping.MappingVersion.{MappingVersion};
+ghost use Rattle.entity_model.specs.{declared.id.EntityId.EntityId, declared.mapping.MappingVersion.MappingVersion};
 ghost use Rattle.entity_state.specs.Record.{blank};
-ghost use Rattle.side_output.specs.declared.entry.Entry.{Entry};
-ghost use Rattle.side_output.specs.Entry.{entity_of};
+ghost use Rattle.side_output.specs.{declared.entry.Entry.Entry, Entry.entity_of};
 ghost use Rattle.replay_model.specs.Acceptance.{Arrival, arrivals, mark, version_in_force};
-ghost use Rattle.replay_model.specs.Entries.{is_open_in};
-ghost use Rattle.replay_model.specs.Play.{Fetch, Replies, fetches, fetches_to_end, played};
-ghost use Rattle.replay_model.specs.Records.{Records, record_of};
-ghost use Rattle.replay_model.specs.ReplayState.{following, following_to_end};
+ghost use Rattle.replay_model.specs.{Entries.is_open_in, Play.Fetch, Play.Replies, Play.fetches, Play.fetches_to_end, Play.played};
+ghost use Rattle.replay_model.specs.{Records.Records, Records.record_of, ReplayState.following, ReplayState.following_to_end};
 ghost use Rattle.replay_model.specs.Transcript.{Sections, asks, matches, said, said_at, transcript};
 ghost use Rattle.replay_model.specs.Union.{Meaning, owners, union};
 ghost use Rattle.replay_parts.specs.Parts.{AgreeOnPart, IsPartition, Part, closing_together, is_in_part, merged, numbered_parts, part_of_fetches, part_of_played, part_of_records, part_of_side, part_of_state, parts_modulo, records_together, replies_of_parts, routed, rows_played, rows_together, said_together, union_played, union_together};

@@ -5,8 +5,7 @@ ghost use Rattle.std.specs.FinMap as map;
 ghost use Rattle.rising.specs.Rising.{IsRising, has};
 ghost use Rattle.rdf_term.specs.Order.{triple_cmp};
 ghost use Rattle.triple_store.specs.StoreState.{counts_in, limit_of};
-ghost use Rattle.replica.specs.declared.record.PatchRecord.{PatchRecord as TheRecord};
-ghost use Rattle.replica.specs.Record.{IsSound};
+ghost use Rattle.replica.specs.{declared.record.PatchRecord.PatchRecord as TheRecord, Record.IsSound};
 ghost use Rattle.replica.specs.Replica.{AreOwnedOnce, effect, is_at_side, patched, patched_if, terms_with, waiting_at};
 
 use crate::record::PatchRecord;

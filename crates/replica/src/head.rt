@@ -2,8 +2,7 @@
 
 ghost use Rattle.std.specs.Prelude.{◌≡◌, ◌↔◌, ◌<◌, ◌^◌, ◌++◌, ◌∷◌, ℕ, List, IfOk, MatchOption, Some, string_bytes};
 ghost use Rattle.std.specs.Fmt.{decimal};
-ghost use Rattle.replica.specs.declared.head.Head.{Head as TheHead};
-ghost use Rattle.replica.specs.Head.{HasNoSpace, IsHead, head_line};
+ghost use Rattle.replica.specs.{declared.head.Head.Head as TheHead, Head.HasNoSpace, Head.IsHead, Head.head_line};
 
 use rdf_term::OutOfMemory;
 use std::alloc::Global;

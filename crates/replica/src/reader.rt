@@ -2,12 +2,10 @@
 
 ghost use Rattle.std.specs.Prelude.{◌≡◌, ◌↔◌, ◌++◌, ◌∷◌, [], IfErr, IfOk, IfSome, IsErr, IsTrue, MatchOption, None, Some, false, true, ◌⊎◌};
 ghost use Rattle.rising.specs.Rising.{IsRising, has};
-ghost use Rattle.rdf_term.specs.declared.triple.Triple.{Triple as TheTriple};
-ghost use Rattle.rdf_term.specs.Order.{triple_cmp};
+ghost use Rattle.rdf_term.specs.{declared.triple.Triple.Triple as TheTriple, Order.triple_cmp};
 ghost use Rattle.replica.specs.declared.reader.PatchFault.TheVariants.{Order as OutOfOrder, OutOfMemory as Refused};
 ghost use Rattle.replica.specs.Reader.{Grows, HasCause, IsPart, IsUnfinished, TakesLine, given, may_come_next, is_adding, is_next, all_read, left, lines_read, opened, patch_read, with_triple};
-ghost use Rattle.replica.specs.Record.{IsSound, record_lines};
-ghost use Rattle.replica.specs.TripleLine.{HasReadableTerms};
+ghost use Rattle.replica.specs.{Record.IsSound, Record.record_lines, TripleLine.HasReadableTerms};
 
 use crate::head::Head;
 use crate::record::PatchRecord;
@@ -51,8 +49,7 @@ pub struct PatchReader {
 
 impl Model for PatchReader {
     ghost use Rattle.std.specs.Prelude.{IfSome, Option};
-    ghost use Rattle.replica.specs.declared.reader.Begun.{Begun};
-    ghost use Rattle.replica.specs.Reader.{IsUnfinished};
+    ghost use Rattle.replica.specs.{declared.reader.Begun.Begun, Reader.IsUnfinished};
 
     ghost Value = { Option Begun };
 

@@ -1,10 +1,8 @@
 // A record of a patch, and the writing of it.
 
-ghost use Rattle.rdf_term.specs.Append.{Appends};
-ghost use Rattle.rdf_term.specs.Text.{triple_text};
+ghost use Rattle.rdf_term.specs.{Append.Appends, Text.triple_text};
 ghost use Rattle.std.specs.Prelude.{◌∷◌, ◌++◌, [], flat_map};
-ghost use Rattle.replica.specs.Head.{head_line};
-ghost use Rattle.replica.specs.Record.{head_of, record_text};
+ghost use Rattle.replica.specs.{Head.head_line, Record.head_of, Record.record_text};
 
 use crate::head::Head;
 use rdf_term::{OutOfMemory, Triple, TripleSet, write_triple};

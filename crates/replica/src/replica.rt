@@ -1,8 +1,7 @@
 // A replica of a producer's triples.
 
 ghost use Rattle.std.specs.Prelude.{◌≡◌, ◌↔◌, ◌+◌, ◌<◌, ◌≤◌, ◌++◌, ◌∷◌, [], ℕ, List, cond, false, Err, IfOk, IsSome, OnErr, OnOk, is_some, Some, ◌^◌};
-ghost use Rattle.std.specs.BTreeMap.{is_at};
-ghost use Rattle.std.specs.Ordering.{nat_cmp};
+ghost use Rattle.std.specs.{BTreeMap.is_at, Ordering.nat_cmp};
 ghost use Rattle.replica.specs.declared.record.PatchRecord.{PatchRecord as TheRecord};
 ghost use Rattle.replica.specs.declared.replica.Received.TheVariants.{Fresh as IsFresh, Repeat as IsRepeat};
 ghost use Rattle.replica.specs.Record.{IsSound};

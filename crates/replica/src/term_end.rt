@@ -2,9 +2,7 @@
 
 ghost use Rattle.std.specs.Prelude.{◌≡◌, ◌∷◌, ◌++◌, List, ℕ, IfSome, MatchOption, true};
 ghost use Rattle.std.specs.Option.{option_map};
-ghost use Rattle.rdf_term.specs.declared.term.Term.{Term};
-ghost use Rattle.rdf_term.specs.Fit.{is_fit};
-ghost use Rattle.rdf_term.specs.Text.{term_text};
+ghost use Rattle.rdf_term.specs.{declared.term.Term.Term, Fit.is_fit, Text.term_text};
 ghost use Rattle.replica.specs.declared.term_end.TermState.TheVariants.{Outside};
 ghost use Rattle.replica.specs.TermEnd.{next_state, term_state_after, split_term};
 

@@ -1,9 +1,7 @@
 // A triple by the line that it has in a record.
 
 ghost use Rattle.std.specs.Prelude.{◌≡◌, ◌↔◌, ◌≤◌, ◌++◌, ◌∷◌, [], IfOk, IfSome, MatchOption, Some};
-ghost use Rattle.rdf_term.specs.declared.term.Term.{Term as TheTerm};
-ghost use Rattle.rdf_term.specs.declared.triple.Triple.{Triple as TheTriple};
-ghost use Rattle.rdf_term.specs.Text.{term_text};
+ghost use Rattle.rdf_term.specs.{declared.term.Term.Term as TheTerm, declared.triple.Triple.Triple as TheTriple, Text.term_text};
 ghost use Rattle.replica.specs.TripleLine.{AreTermTexts, IsTermText, IsTripleLine};
 
 use crate::term_end::split_term;

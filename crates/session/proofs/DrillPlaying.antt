@@ -30,7 +30,7 @@ use Rattle.session.specs.declared.stop.Stop.TheVariants.{OutOfMemory as Refused}
 use Rattle.checkpoint.specs.declared.numbers.Numbers.{Numbers}
 use Rattle.session.specs.declared.report.Report.TheVariants.{Answers}
 use Rattle.session.specs.declared.stop.Halt.{Halt}
-use Rattle.session.specs.declared.stop.Halt.TheVariants.{Unapplied as NotApplied, Untold}
+use Rattle.session.specs.declared.stop.Halt.TheVariants.{Unapplied as NotApplied, Unprinted}
 use Rattle.term_pool.specs.declared.fault.PoolFault.TheVariants.{Full, OutOfMemory}
 use Rattle.session.specs.Counts.{HasCountedAt, RoseBy}
 use Rattle.session.specs.Course.{Course, course_after, course_begun, course_to_end, led_to, version_at}
@@ -81,7 +81,7 @@ module _ (size : ℕ) (start : Beginning) (now : Stage) (nothing : IsFirst start
 
   unapplied_none : (halt : Halt) (made : ℕ) → HasCountedAt halt start.counts now.counts start.world.played.side made now.world.played.side → failed_events now.world.played.side ≡ []
   unapplied_none (NotApplied Full) made counted = none_failed _ _ _ _ counted.failed none_named still
-  unapplied_none (Untold why) made counted = none_failed _ _ _ _ counted.failed none_named still
+  unapplied_none (Unprinted why) made counted = none_failed _ _ _ _ counted.failed none_named still
   unapplied_none (NotApplied OutOfMemory) made counted = ⊎_elim (λ same. none_failed _ _ _ _ same.failed none_named still) (λ more. none_failed _ _ _ _ more.failed none_named still) counted
 
   -- and where some due events were applied, it is within its play
@@ -199,7 +199,7 @@ module _ (run : DrillRun) (ds after : List Delivery) (d : Delivery) (all : drill
           untaken : (halt : Halt) → IsUntaken halt before now → world_now.replay ≡ following None (replies_of run.size) ds
           untaken (NotApplied Full) never = absurd never
           untaken (NotApplied OutOfMemory) same = same.0 ∙ stands
-          untaken (Untold why) never = absurd never
+          untaken (Unprinted why) never = absurd never
 
       begun : (world_now.replay ≡ following None (replies_of run.size) ds) ⊎ ((steps : ℕ) × (world_now.replay ≡ after_some (replies_of run.size) steps (entered (following None (replies_of run.size) ds) d))) → HasBegun run.size world_now.replay
       begun at = inl (⊎_elim
@@ -224,7 +224,7 @@ module _ (run : DrillRun) (ds after : List Delivery) (d : Delivery) (all : drill
               IsUntaken halt before now ⊎ IsWithin halt (drill_environment run.size) (course_begun None ds (Some d) taken.start) (λ replies. entered (led_to ds taken.start replies) d) taken.start now → stop_of_halt halt ≡ Refused
           by (NotApplied Full) full part = absurd (full_never run.size world_now.replay (mapped_in world_now) is_size (begun at) mapped full)
           by (NotApplied OutOfMemory) held_up part = refl
-          by (Untold why) held_up part = absurd (⊎_elim (λ never. never) (λ within. within.says) part)
+          by (Unprinted why) held_up part = absurd (⊎_elim (λ never. never) (λ within. within.says) part)
 
       -- it isn't taken wholly
       pub cut_off : IsSize run.size → (stop : Stop) → CutsOff stop (environment None Answers (told_of run.pages.size) folder world.limit) (turn 0 0 d) before now → IsDrillHalted run.size ds d stop world_now
@@ -360,4 +360,4 @@ module _ (run : DrillRun) (folder : List ℕ) (out : Output) (world : WorldState
   end_starved is_size (NotApplied Full) stays keeps full =
       absurd (full_never run.size world_now.replay (mapped_in world_now) is_size (inr (end_halted (NotApplied Full) stays)) (end_first keeps)
       (subst (λ s. IsFull s world_now.replay (mapped_in world_now)) environment_at_end full))
-  end_starved is_size (Untold why) stays keeps held_up = absurd (end_within (Untold why) stays).says
+  end_starved is_size (Unprinted why) stays keeps held_up = absurd (end_within (Unprinted why) stays).says

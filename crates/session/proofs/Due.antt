@@ -36,7 +36,7 @@ use Rattle.session.specs.Course.{Course}
 use Rattle.graph_routes.specs.declared.routes.Route.{Route}
 use Rattle.session.specs.declared.report.Report.{Report}
 use Rattle.session.specs.declared.report.Report.TheVariants.{Answers}
-use Rattle.session.specs.declared.stop.Halt.TheVariants.{Unapplied as NotApplied, Untold}
+use Rattle.session.specs.declared.stop.Halt.TheVariants.{Unapplied as NotApplied, Unprinted}
 use Rattle.term_pool.specs.declared.fault.PoolFault.{PoolFault as StoreFault}
 use Rattle.term_pool.specs.declared.fault.PoolFault.TheVariants.{Full, OutOfMemory}
 use Rattle.revisions.specs.declared.revisions.Revisions.{Ghosts as RevisionsOf}
@@ -329,15 +329,15 @@ within why environment course begun reported start now counts last under_way =
     }
 
 -- an event was applied, and isn't told wholly
-within_untold : (routes : Option (List Route)) (report : Report) (why : Unwritten) (contents : Option Contents) (folder : List ℕ) (limit : ℕ) (course : Course) (begun : Replies → ReplayState) (reported : ℕ) (start : Beginning) (before now : Stage) →
+within_unprinted : (routes : Option (List Route)) (report : Report) (why : Unwritten) (contents : Option Contents) (folder : List ℕ) (limit : ℕ) (course : Course) (begun : Replies → ReplayState) (reported : ℕ) (start : Beginning) (before now : Stage) →
     (u : IsUnderWay (environment routes report contents folder limit) course begun reported start before) → LeadsOn (environment routes report contents folder limit) course reported start before now u.leads →
-    TellsStepBy report reported (step_between before now) before.output now.output (Err why) → IsWithin (Untold why) (environment routes report contents folder limit) course begun start now
-within_untold routes report why contents folder limit course begun reported start before now u on tells =
+    TellsStepBy report reported (step_between before now) before.output now.output (Err why) → IsWithin (Unprinted why) (environment routes report contents folder limit) course begun start now
+within_unprinted routes report why contents folder limit course begun reported start before now u on tells =
     let honest : (there : ℕ → Option Bytes) → (environment routes report contents folder limit).known ≡ Some there → AgreeOnApplied now.world on.explained.replies (replies_there there now.world) =
     λ there is q r h. sym (on.explained.honest there is q r) in
     let is : (others : Replies) → AgreeOnApplied now.world on.explained.replies others → now.world ≡ after_some others (suc u.steps) (begun others) =
     λ others agree. on.is_next others agree ∙ ap (after_next others) (u.is others (on.agree_before others agree)) in
-    let says : (others : Replies) → AgreeOnApplied now.world on.explained.replies others → HasReportedAt (Untold why) report course start now others =
+    let says : (others : Replies) → AgreeOnApplied now.world on.explained.replies others → HasReportedAt (Unprinted why) report course start now others =
     λ others agree. reported_but_last report why course reported start before now (step_between before now) others (on.first others agree) tells (u.leads.says others (on.agree_before others agree)) in
     record {
       steps = suc u.steps;
@@ -386,12 +386,12 @@ starved why environment reported reported_now before out now last world new goes
     rw same (λ course begun start is_mapped under_way. within why environment course begun reported_now start (stage_in out now world) last lasts (goes.leads course begun start is_mapped under_way))
 
 -- an event is applied, and isn't told wholly
-pub untold : (routes : Option (List Route)) (report : Report) (why : Unwritten) (contents : Option Contents) (folder : List ℕ) (limit : ℕ) (reported between : ℕ) (before middle now : Stage) → KeepsVersion before.mapped middle.mapped before.world.played.records middle.world.played.records →
+pub unprinted : (routes : Option (List Route)) (report : Report) (why : Unwritten) (contents : Option Contents) (folder : List ℕ) (limit : ℕ) (reported between : ℕ) (before middle now : Stage) → KeepsVersion before.mapped middle.mapped before.world.played.records middle.world.played.records →
     Goes (environment routes report contents folder limit) reported between before middle → IsApplied contents folder limit middle now → TellsStepBy report between (step_between middle now) middle.output now.output (Err why) →
-    StaysWithin (Untold why) (environment routes report contents folder limit) reported before now
-untold routes report why contents folder limit reported between before middle now keeps goes is tells = λ course begun start is_mapped under_way.
+    StaysWithin (Unprinted why) (environment routes report contents folder limit) reported before now
+unprinted routes report why contents folder limit reported between before middle now keeps goes is tells = λ course begun start is_mapped under_way.
     let u = goes.leads course begun start is_mapped under_way in
-    within_untold routes report why contents folder limit course begun between start middle now u (applies-on routes report contents folder limit middle now is course between start (keeps course.version is_mapped) u.leads) tells
+    within_unprinted routes report why contents folder limit course begun between start middle now u (applies-on routes report contents folder limit middle now is course between start (keeps course.version is_mapped) u.leads) tells
 
 -- where the world says that there is no room, the store is full
 full_there : (routes : Option (List Route)) (report : Report) (contents : Option Contents) (folder : List ℕ) (limit : ℕ) (x : EntityId) (r : ℕ) (bytes : Bytes) → IsReply contents folder x r (Ok bytes) → (there : ℕ → Option Bytes) →

@@ -44,7 +44,7 @@ use Rattle.session.specs.Answering.{closing_by, closing_held}
 use Rattle.session.specs.declared.report.Report.{Report}
 use Rattle.session.specs.declared.report.Report.TheVariants.{Answers, Changes}
 use Rattle.session.specs.declared.stop.Halt.{Halt}
-use Rattle.session.specs.declared.stop.Halt.TheVariants.{Unapplied as NotApplied, Untold}
+use Rattle.session.specs.declared.stop.Halt.TheVariants.{Unapplied as NotApplied, Unprinted}
 use Rattle.term_pool.specs.declared.fault.PoolFault.{PoolFault as StoreFault}
 use Rattle.term_pool.specs.declared.fault.PoolFault.TheVariants.{Full as NoRoom, OutOfMemory as Starved}
 use Rattle.session.specs.Taking.{AtEnd, HoldsDocuments, IsHeldUp, IsLeft, Leads, judgement, replies_there}
@@ -201,8 +201,8 @@ interrupted Refused run before now between earlier rose stands = inl (inr stands
 pub halted : (halt : Halt) (run : Run) (before now : Moment) (between : Output) → before.stage.output.faults ≤ between.faults → IsHeldUp halt run.environment between now.stage → IsHalted halt run before now → Stopped (stop_of_halt halt) run before now
 halted (NotApplied NoRoom) run before now between earlier full stands = inl (full, stands)
 halted (NotApplied Starved) run before now between earlier held_up stands = inl (inl (inl stands))
-halted (Untold NotWritten) run before now between earlier rose stands = inl (rose_since before.stage.output.faults between.faults now.stage.output.faults earlier rose, inr (inl stands))
-halted (Untold Refused) run before now between earlier rose stands = inl (inr (inr (inl stands)))
+halted (Unprinted NotWritten) run before now between earlier rose stands = inl (rose_since before.stage.output.faults between.faults now.stage.output.faults earlier rose, inr (inl stands))
+halted (Unprinted Refused) run before now between earlier rose stands = inl (inr (inr (inl stands)))
 
 -- not all that is held was remapped
 pub left_stale : (why : StoreFault) (run : Run) (before now : Moment) → IsLeftStale why run.environment.limit now.stage.world.played.records now.stage.mapped → StandsAtMapping run before now → Stopped (stop_of_unapplied why) run before now
@@ -210,10 +210,10 @@ left_stale NoRoom run before now full stands = inr (full, stands)
 left_stale Starved run before now stale stands = inl (inl (inr stands))
 
 -- a page was remapped, and not told wholly
-pub page_untold : (why : Unwritten) (run : Run) (before now : Moment) (limit : ℕ) (records : Records) (between : Output) → before.stage.output.faults ≤ between.faults →
-    IsLeft (Untold why) limit records now.stage.mapped between now.stage.output → StandsAtPage why run before now → Stopped (stop_of_unwritten why) run before now
-page_untold NotWritten run before now limit records between earlier rose stands = inl (rose_since before.stage.output.faults between.faults now.stage.output.faults earlier rose, inr (inr stands))
-page_untold Refused run before now limit records between earlier rose stands = inl (inr (inr (inr stands)))
+pub page_unprinted : (why : Unwritten) (run : Run) (before now : Moment) (limit : ℕ) (records : Records) (between : Output) → before.stage.output.faults ≤ between.faults →
+    IsLeft (Unprinted why) limit records now.stage.mapped between now.stage.output → StandsAtPage why run before now → Stopped (stop_of_unwritten why) run before now
+page_unprinted NotWritten run before now limit records between earlier rose stands = inl (rose_since before.stage.output.faults between.faults now.stage.output.faults earlier rose, inr (inr stands))
+page_unprinted Refused run before now limit records between earlier rose stands = inl (inr (inr (inr stands)))
 
 -- the sections weren't all written
 pub broken_off : (why : Unwritten) (run : Run) (before now : Moment) (out : Output) → run.environment.report ≡ Answers → (replayed : HasReplayed run before now) → before.stage.output.faults ≤ now.stage.output.faults →

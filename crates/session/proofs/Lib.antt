@@ -1,30 +1,19 @@
-mod Along
+pub mod Along
 mod Answers
-mod Beginnings
-mod Complete
 mod Deliveries
 mod DrillPlaying
 mod Drills
 mod Due
-mod Ends
+pub mod Ends
 mod Explaining
-mod Finding
-mod Fitting
-mod Followed
-mod FromNothing
-mod GoesOn
+pub mod FromNothing
 mod Loaded
 mod Needed
-mod OneRun
 mod Ongoing
-mod Opening
 mod Pages
 mod Plans
 mod Printed
 mod Progress
-mod Reading
-mod Reloading
+pub mod Reading
 mod Reports
-mod SaidRuns
-mod StreamRuns
-mod Versions
+pub mod Versions

@@ -17,7 +17,7 @@ use Rattle.text_output.specs.Printing.{Output}
 use Rattle.patch_stream.specs.Stream.{Step, step, steps_anew, steps_remapped}
 use Rattle.session.specs.declared.report.Report.{Report}
 use Rattle.session.specs.declared.report.Report.TheVariants.{Answers, Changes}
-use Rattle.session.specs.declared.stop.Halt.TheVariants.{Unapplied as NotApplied, Untold}
+use Rattle.session.specs.declared.stop.Halt.TheVariants.{Unapplied as NotApplied, Unprinted}
 use Rattle.term_pool.specs.declared.fault.PoolFault.{PoolFault as StoreFault}
 use Rattle.session.specs.Remapping.{IsLeftStale, mapped_in}
 use Rattle.session.specs.Report.{TellsBy, TellsStepBy}
@@ -86,14 +86,14 @@ module _ (report : Report) (reported between : ℕ) (version : MappingVersion) (
     tells = tells_next report reported between reported_now so_far.pages this out_old out_now out_new so_far.tells tells;
   }
 
-  rose : (report : Report) (why : Unwritten) → out_old.faults ≤ out_now.faults → TellsStepBy report between this out_now out_new (Err why) → IsLeft (Untold why) old.limit old.replay.played.records (mapped_in new) out_old out_new
+  rose : (report : Report) (why : Unwritten) → out_old.faults ≤ out_now.faults → TellsStepBy report between this out_now out_new (Err why) → IsLeft (Unprinted why) old.limit old.replay.played.records (mapped_in new) out_old out_new
   rose Answers why more never = absurd never
   rose Changes WriteFault more tells = omega (arith, more, (tells.outcome.1.failed refl).1)
   rose Changes NoMemory more tells = tt
 
   -- one more isn't told wholly
   pub told_but_last : (why : Unwritten) → Remaps version old new → out_old.faults ≤ out_now.faults → TellsStepBy report between this out_now out_new (Err why) →
-      RemapsPages (Untold why) report old.limit reported version old.replay.played.records (mapped_in old) (mapped_in new) out_old out_new
+      RemapsPages (Unprinted why) report old.limit reported version old.replay.played.records (mapped_in old) (mapped_in new) out_old out_new
   told_but_last why remaps more tells = record {
     left = rose report why more tells;
     steps = remaps.steps;

@@ -34,7 +34,7 @@ use Rattle.graph_routes.specs.declared.routes.Route.{Route}
 use Rattle.session.specs.declared.report.Report.{Report}
 use Rattle.session.specs.declared.report.Report.TheVariants.{Answers, Changes}
 use Rattle.session.specs.declared.stop.Halt.{Halt}
-use Rattle.session.specs.declared.stop.Halt.TheVariants.{Unapplied as NotApplied, Untold}
+use Rattle.session.specs.declared.stop.Halt.TheVariants.{Unapplied as NotApplied, Unprinted}
 use Rattle.session.specs.declared.stop.Stop.{Stop}
 use Rattle.session.specs.declared.stop.Stop.TheVariants.{BadLine, OutOfMemory}
 use Rattle.term_pool.specs.declared.fault.PoolFault.TheVariants.{Full as NoRoom, OutOfMemory as Starved}
@@ -58,7 +58,7 @@ use Rattle.session.proofs.Needed.{due-none}
 use Rattle.session.proofs.Reports.{steps-none}
 use Rattle.session.proofs.Deliveries.{is_answer, remapping_counted, remapping_leads, rest_within}
 use Rattle.session.proofs.Due.{within_mapped}
-use Rattle.session.proofs.Ends.{halted, interrupted, is_played, left_stale, page_untold, rose_since}
+use Rattle.session.proofs.Ends.{halted, interrupted, is_played, left_stale, page_unprinted, rose_since}
 use Rattle.session.proofs.Answers.{answer_held_by}
 use Rattle.session.proofs.Reading.{HasLimits, IsNextLine, all_read, as_many, bad_line, first_lines, first_with, nothing_first, nothing_read, nothing_taken_of, over_long, past_limit, read_more, takes_on, whole_read}
 
@@ -322,7 +322,7 @@ module _ (run : Run) (before now : Moment) (reader : Reading) (reported matched 
             first = first_still next after.input.left now.last_read after.last_read is.reads;
             alone = λ q never. no_last q never;
           }
-          untaken (Untold why) mapped never = absurd never
+          untaken (Unprinted why) mapped never = absurd never
 
       -- not all that is held was remapped, or told
       remaps : (halt : Halt) → RemapsInPart halt run.environment (turn reported matched d) now.stage after.stage → Stopped (stop_of_halt halt) run before after
@@ -377,11 +377,11 @@ module _ (run : Run) (before now : Moment) (reader : Reading) (reported matched 
           first_lines_with : AreFirstAlone (max_bytes_of run.choices) before.input.left after.input.left (so_far.deliveries ++ Mapping in_part.version ∷ [])
           first_lines_with = subst (λ q. AreFirstAlone (max_bytes_of run.choices) before.input.left after.input.left (so_far.deliveries ++ q ∷ [])) in_part.is first
 
-          untold : (report : Report) → report ≡ run.environment.report → (why : Unwritten) (pages others : List Step) (last : Step) → pages ≡ others ++ last ∷ [] → BreaksOffBy report why reported others last now.stage.output after.stage.output →
-              (x : RemapsPages (Untold why) run.environment.report run.environment.limit reported in_part.version now.stage.world.played.records now.stage.mapped after.stage.mapped now.stage.output after.stage.output) →
+          unprinted : (report : Report) → report ≡ run.environment.report → (why : Unwritten) (pages others : List Step) (last : Step) → pages ≡ others ++ last ∷ [] → BreaksOffBy report why reported others last now.stage.output after.stage.output →
+              (x : RemapsPages (Unprinted why) run.environment.report run.environment.limit reported in_part.version now.stage.world.played.records now.stage.mapped after.stage.mapped now.stage.output after.stage.output) →
               pages ++ steps_anew in_part.version now.stage.world.played.records after.stage.mapped.by_two ≡ steps_anew in_part.version now.stage.world.played.records now.stage.mapped.by_two → StandsAtPage why run before after
-          untold Answers same why pages others last split never x are = absurd never
-          untold Changes same why pages others last split broken x are =
+          unprinted Answers same why pages others last split never x are = absurd never
+          unprinted Changes same why pages others last split broken x are =
               let tells = subst (λ report. TellsBy report reported others broken.told_then now.stage.output broken.between) same broken.tells in
               let p = played_with others broken.told_then broken.between tells in
               record {
@@ -415,7 +415,7 @@ module _ (run : Run) (before now : Moment) (reader : Reading) (reported matched 
                 roomed = roomed x.roomed;
                 first = first_lines_with;
               })
-          by (Untold why) x = page_untold why run before after run.environment.limit now.stage.world.played.records now.stage.output so_far.at_rest.later x.left (untold run.environment.report refl why x.pages x.told.0 x.told.1 x.told.2 x.told.3 x x.are)
+          by (Unprinted why) x = page_unprinted why run before after run.environment.limit now.stage.world.played.records now.stage.output so_far.at_rest.later x.left (unprinted run.environment.report refl why x.pages x.told.0 x.told.1 x.told.2 x.told.3 x x.are)
 
       -- a delivery that isn't taken wholly stops the taking
       pub delivery_stops : (stop : Stop) → CutsOff stop run.environment (turn reported matched d) now.stage after.stage → Stopped stop run before after

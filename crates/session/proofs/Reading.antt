@@ -151,13 +151,13 @@ nothing_first limit (Some bytes) = record {
 }
 
 -- where the bytes aren't told, those that are left aren't either
-untold : (xs : List ℕ) (known : Option (List ℕ)) → None ≡ before_known xs known → None ≡ known
-untold xs None is = refl
-untold xs (Some ys) is = cc
+unknown : (xs : List ℕ) (known : Option (List ℕ)) → None ≡ before_known xs known → None ≡ known
+unknown xs None is = refl
+unknown xs (Some ys) is = cc
 
 -- if the bytes aren't told, nothing is said of what was taken after the lines
-first_untold : (limit : ℕ) (left_now : Option (List ℕ)) (done : List (List ℕ)) (ds : List Delivery) → deliveries_of done ≡ Some ds → None ≡ left_now → AreFirst limit None left_now ds
-first_untold limit None done ds delivered is = record {
+first_unknown : (limit : ℕ) (left_now : Option (List ℕ)) (done : List (List ℕ)) (ds : List Delivery) → deliveries_of done ≡ Some ds → None ≡ left_now → AreFirst limit None left_now ds
+first_unknown limit None done ds delivered is = record {
   before = done;
   read = [];
   part = [];
@@ -169,7 +169,7 @@ first_untold limit None done ds delivered is = record {
   undecided = nothing_undecided (limit - 0);
   piece = omega arith;
 }
-first_untold limit (Some bytes) done ds delivered is = cc
+first_unknown limit (Some bytes) done ds delivered is = cc
 
 -- bytes behind others
 before_both : (xs ys : List ℕ) (known : Option (List ℕ)) → before_known xs (before_known ys known) ≡ before_known (xs ++ ys) known
@@ -278,7 +278,7 @@ module _ (limit : ℕ) (reader : Reading) (left : Option (List ℕ)) (ds : List 
   pub first_lines : (start : Option (List ℕ)) (next : Reading) (left_next : Option (List ℕ)) (last last_next : Option LastRead) → ReadsAsNeeded reader next left left_next last last_next →
       HasRead start reader left ds → AreFirst limit start left_next ds
   first_lines None next left_next last last_next reads read =
-      first_untold limit left_next read.done ds read.delivered (untold (reads.before ++ reads.last) left_next (untold reader.held left (untold read.read (unread reader left) read.bytes) ∙ reads.told))
+      first_unknown limit left_next read.done ds read.delivered (unknown (reads.before ++ reads.last) left_next (unknown reader.held left (unknown read.read (unread reader left) read.bytes) ∙ reads.told))
   first_lines (Some bytes) next left_next last last_next reads read = by reads.needed
     where
       behind : unread reader left ≡ before_known (reader.held ++ (reads.before ++ reads.last)) left_next

@@ -26,7 +26,7 @@ use Rattle.text_output.proofs.Parts.{after_twice}
 use Rattle.replay_parts.specs.Checkpoint.{Checkpoint}
 use Rattle.session.specs.declared.report.Report.{Report}
 use Rattle.session.specs.declared.report.Report.TheVariants.{Answers, Changes}
-use Rattle.session.specs.declared.stop.Halt.TheVariants.{Untold}
+use Rattle.session.specs.declared.stop.Halt.TheVariants.{Unprinted}
 use Rattle.session.specs.Along.{along, state_along, steps_of_delivery, stream_text_from, version_since}
 use Rattle.session.specs.Course.{Course}
 use Rattle.session.specs.Moment.{Beginning, Environment, Stage}
@@ -132,7 +132,7 @@ reported_next Changes course reported reported_now start now then s replies firs
 -- one more step isn't reported wholly
 pub reported_but_last : (report : Report) (why : Unwritten) (course : Course) (reported : ℕ) (start : Beginning) (now then : Stage) (s : Step) (replies : Replies) →
     steps_due course.version replies now.world ≡ s ∷ steps_due course.version replies then.world → TellsStepBy report reported s now.output then.output (Err why) →
-    HasReported report course reported start now replies → HasReportedAt (Untold why) report course start then replies
+    HasReported report course reported start now replies → HasReportedAt (Unprinted why) report course start then replies
 reported_but_last Answers why course reported start now then s replies first never x = absurd never
 reported_but_last Changes why course reported start now then s replies first tells x = record {
   steps = x.steps;
@@ -155,16 +155,16 @@ still_silent Answers reported reported_now s old new answers tells = tells.1
 still_silent Changes reported reported_now s old new answers tells = cc
 
 -- and it doesn't fail
-pub never_untold : {P : Type 0} (report : Report) (why : Unwritten) (reported : ℕ) (s : Step) (old new : Output) → report ≡ Answers → TellsStepBy report reported s old new (Err why) → P
-never_untold Answers why reported s old new answers never = absurd never
-never_untold Changes why reported s old new answers tells = cc
+pub never_unprinted : {P : Type 0} (report : Report) (why : Unwritten) (reported : ℕ) (s : Step) (old new : Output) → report ≡ Answers → TellsStepBy report reported s old new (Err why) → P
+never_unprinted Answers why reported s old new answers never = absurd never
+never_unprinted Changes why reported s old new answers tells = cc
 
 -- where a record isn't written wholly because a write failed, the count of these rose
-pub untold_held_up : (report : Report) (why : Unwritten) (environment : Environment) (reported : ℕ) (s : Step) (old : Output) (now : Stage) (middle : Output) → old.faults ≤ middle.faults → TellsStepBy report reported s middle now.output (Err why) →
-    IsHeldUp (Untold why) environment old now
-untold_held_up Answers why environment reported s old now middle more never = absurd never
-untold_held_up Changes WriteFault environment reported s old now middle more tells = omega (arith, more, (tells.outcome.1.failed refl).1)
-untold_held_up Changes NoMemory environment reported s old now middle more tells = tt
+pub unprinted_held_up : (report : Report) (why : Unwritten) (environment : Environment) (reported : ℕ) (s : Step) (old : Output) (now : Stage) (middle : Output) → old.faults ≤ middle.faults → TellsStepBy report reported s middle now.output (Err why) →
+    IsHeldUp (Unprinted why) environment old now
+unprinted_held_up Answers why environment reported s old now middle more never = absurd never
+unprinted_held_up Changes WriteFault environment reported s old now middle more tells = omega (arith, more, (tells.outcome.1.failed refl).1)
+unprinted_held_up Changes NoMemory environment reported s old now middle more tells = tt
 
 -- ---- remapped pages
 

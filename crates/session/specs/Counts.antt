@@ -8,7 +8,7 @@ use Rattle.wq_io.specs.declared.source.Source.{Ghosts as SourceOf}
 use Rattle.wq_io.specs.declared.sink.Sink.{Ghosts as SinkOf}
 use Rattle.session.specs.declared.ports.Ports.{Ports}
 use Rattle.session.specs.declared.stop.Halt.{Halt}
-use Rattle.session.specs.declared.stop.Halt.TheVariants.{Unapplied as NotApplied, Untold}
+use Rattle.session.specs.declared.stop.Halt.TheVariants.{Unapplied as NotApplied, Unprinted}
 use Rattle.term_pool.specs.declared.fault.PoolFault.{PoolFault as StoreFault}
 use Rattle.term_pool.specs.declared.fault.PoolFault.TheVariants.{Full, OutOfMemory}
 
@@ -42,7 +42,7 @@ HasCountedUnapplied OutOfMemory start now before made side = HasCounted start no
 -- the same where a delivery wasn't taken wholly; an event that was applied and wasn't told is counted like any other
 abbrev pub HasCountedAt : Halt → SourceCounts → SourceCounts → List Entry → ℕ → List Entry → Type 0
 HasCountedAt (NotApplied why) start now before made side = HasCountedUnapplied why start now before made side
-HasCountedAt (Untold why) start now before made side = HasCounted start now before made side
+HasCountedAt (Unprinted why) start now before made side = HasCounted start now before made side
 
 -- a source was asked further: its contents and the most calls that ever fail are the same, and no failure counter decreased
 pub record HasGoneOn {R : Type 0} (members : RevisionsOf R) (old new : R) : Type 0 where

@@ -30,7 +30,7 @@ use Rattle.patch_stream.specs.Stream.{Step, changes, is_change, record_of_step, 
 use Rattle.checkpoint.specs.declared.numbers.Numbers.{Numbers}
 use Rattle.words.specs.Options.{closes, max_bytes_of}
 use Rattle.session.specs.declared.report.Report.TheVariants.{Answers, Changes}
-use Rattle.session.specs.declared.stop.Halt.TheVariants.{Unapplied, Untold}
+use Rattle.session.specs.declared.stop.Halt.TheVariants.{Unapplied, Unprinted}
 use Rattle.session.specs.declared.status.Status.{Status}
 use Rattle.session.specs.declared.stop.Stop.{Stop}
 use Rattle.session.specs.declared.stop.Stop.TheVariants.{BadLine, ReadFault, WriteFault, TooLong, StoreFull, OutOfMemory, BadSnapshot}
@@ -245,7 +245,7 @@ pub record StandsAtPage (why : Unwritten) (run : Run) (before now : Moment) : Ty
 -- what a run that stopped while it printed leaves: in the answer to a question, or in the sections; or in the record of an application, or
 -- of a remapped page
 abbrev pub IsInterrupted : Unwritten → Run → Moment → Moment → Type 0
-IsInterrupted why run before now = (StandsAtQuestion why run before now ⊎ BrokenOff why run before now) ⊎ (IsHalted (Untold why) run before now ⊎ StandsAtPage why run before now)
+IsInterrupted why run before now = (StandsAtQuestion why run before now ⊎ BrokenOff why run before now) ⊎ (IsHalted (Unprinted why) run before now ⊎ StandsAtPage why run before now)
 
 -- why a run stopped that was begun, and what stands then
 abbrev pub Stopped : Stop → Run → Moment → Moment → Type 0

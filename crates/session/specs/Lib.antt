@@ -1,6 +1,5 @@
 pub mod Along
 pub mod Answering
-pub mod Complete
 pub mod Counts
 pub mod Course
 pub mod DrillPlaying

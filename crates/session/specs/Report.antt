@@ -14,7 +14,7 @@ use Rattle.checkpoint.specs.declared.numbers.Numbers.{Numbers}
 use Rattle.session.specs.declared.report.Report.{Report}
 use Rattle.session.specs.declared.report.Report.TheVariants.{Answers, Changes}
 use Rattle.session.specs.declared.stop.Halt.{Halt}
-use Rattle.session.specs.declared.stop.Halt.TheVariants.{Unapplied, Untold}
+use Rattle.session.specs.declared.stop.Halt.TheVariants.{Unapplied, Unprinted}
 use Rattle.session.specs.Along.{stream_text_from}
 use Rattle.session.specs.Course.{Course}
 use Rattle.session.specs.Moment.{Beginning, Stage}
@@ -72,8 +72,8 @@ HasReported Changes course reported start now replies = HasTold course reported 
 -- the same where a delivery wasn't taken wholly, but for the last record where that is why
 abbrev pub HasReportedAt : Halt → Report → Course → Beginning → Stage → Replies → Type 0
 HasReportedAt (Unapplied why) report course start now replies = (reported : ℕ) × HasReported report course reported start now replies
-HasReportedAt (Untold why) Answers course start now replies = ⊥
-HasReportedAt (Untold why) Changes course start now replies = HasBrokenOff why course start now replies
+HasReportedAt (Unprinted why) Answers course start now replies = ⊥
+HasReportedAt (Unprinted why) Changes course start now replies = HasBrokenOff why course start now replies
 
 -- ---- answers
 

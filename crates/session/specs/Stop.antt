@@ -14,7 +14,7 @@ use Rattle.checkpoint.specs.declared.fault.LoadFault.{LoadFault}
 use Rattle.checkpoint.specs.declared.fault.LoadFault.TheVariants.{ReadFault as NotLoaded, TooLong as OverLength, BadLine as BadSnapshotLine, Full as NoRoomLeft, OutOfMemory as Unloaded}
 use Rattle.session.specs.declared.stop.Stop.{Stop}
 use Rattle.session.specs.declared.stop.Halt.{Halt}
-use Rattle.session.specs.declared.stop.Halt.TheVariants.{Unapplied as NotApplied, Untold}
+use Rattle.session.specs.declared.stop.Halt.TheVariants.{Unapplied as NotApplied, Unprinted}
 use Rattle.term_pool.specs.declared.fault.PoolFault.{PoolFault as StoreFault}
 use Rattle.term_pool.specs.declared.fault.PoolFault.TheVariants.{Full as NoRoom, OutOfMemory as Starved}
 use Rattle.session.specs.declared.stop.Stop.TheVariants.{BadLine, ReadFault, WriteFault, TooLong, StoreFull, OutOfMemory, BadSnapshot}
@@ -42,7 +42,7 @@ stop_of_unapplied Starved = OutOfMemory
 -- why a run stopped where a delivery wasn't taken wholly
 abbrev pub stop_of_halt : Halt → Stop
 stop_of_halt (NotApplied why) = stop_of_unapplied why
-stop_of_halt (Untold why) = stop_of_unwritten why
+stop_of_halt (Unprinted why) = stop_of_unwritten why
 
 -- why a line of records is refused, as a cause of a line
 abbrev pub cause_of_record : RecordCause → LineCause

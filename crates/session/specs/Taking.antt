@@ -24,7 +24,7 @@ use Rattle.session.specs.declared.stop.Stop.{Stop}
 use Rattle.session.specs.declared.report.Report.{Report}
 use Rattle.session.specs.declared.report.Report.TheVariants.{Answers}
 use Rattle.session.specs.declared.stop.Halt.{Halt}
-use Rattle.session.specs.declared.stop.Halt.TheVariants.{Unapplied, Untold}
+use Rattle.session.specs.declared.stop.Halt.TheVariants.{Unapplied, Unprinted}
 use Rattle.term_pool.specs.declared.fault.PoolFault.TheVariants.{Full, OutOfMemory}
 use Rattle.session.specs.Answering.{answer_held}
 use Rattle.session.specs.Counts.{HasCounted, HasCountedAt}
@@ -143,8 +143,8 @@ pub record IsFull (environment : Environment) (world : ReplayState) (mapped : Ma
 abbrev pub IsHeldUp : Halt → Environment → Output → Stage → Type 0
 IsHeldUp (Unapplied Full) environment old now = IsFull environment now.world now.mapped
 IsHeldUp (Unapplied OutOfMemory) environment old now = ⊤
-IsHeldUp (Untold WriteFault) environment old now = Rose old.faults now.output.faults
-IsHeldUp (Untold NoMemory) environment old now = ⊤
+IsHeldUp (Unprinted WriteFault) environment old now = Rose old.faults now.output.faults
+IsHeldUp (Unprinted NoMemory) environment old now = ⊤
 
 -- a due event wasn't applied, or not told: if the world was under way in a play, by whose version every page was mapped, it still is
 abbrev pub StaysWithin : Halt → Environment → ℕ → Stage → Stage → Type 0
@@ -181,7 +181,7 @@ pub record AnswersInPart (why : Unwritten) (environment : Environment) (t : Turn
 abbrev pub IsUntaken : Halt → Stage → Stage → Type 0
 IsUntaken (Unapplied Full) before now = ⊥
 IsUntaken (Unapplied OutOfMemory) before now = (now.world ≡ before.world) × (now.counts ≡ before.counts) × (now.output ≡ before.output)
-IsUntaken (Untold why) before now = ⊥
+IsUntaken (Unprinted why) before now = ⊥
 
 -- an event or a watermark wasn't taken wholly: a world that was at rest is as it was, with counts and output, or has taken it, with some
 -- of what it makes due; every page is mapped by the version by which it was, if all were by one
@@ -195,13 +195,13 @@ pub record TakesInPart (halt : Halt) (environment : Environment) (t : Turn) (bef
 -- why not all pages were remapped, or the last one isn't told
 abbrev pub IsLeft : Halt → ℕ → Records → Mapped → Output → Output → Type 0
 IsLeft (Unapplied why) limit records now old new = IsLeftStale why limit records now
-IsLeft (Untold WriteFault) limit records now old new = Rose old.faults new.faults
-IsLeft (Untold NoMemory) limit records now old new = ⊤
+IsLeft (Unprinted WriteFault) limit records now old new = Rose old.faults new.faults
+IsLeft (Unprinted NoMemory) limit records now old new = ⊤
 
 -- the records of the remapped pages were written after so many, but for the last one if that is why
 abbrev pub TellsPages : Halt → Report → ℕ → List Step → Output → Output → Type 0
 TellsPages (Unapplied why) report reported pages old new = (reported_now : ℕ) × TellsBy report reported pages reported_now old new
-TellsPages (Untold why) report reported pages old new = (others : List Step) × (last : Step) × (pages ≡ others ++ last ∷ []) × BreaksOffBy report why reported others last old new
+TellsPages (Unprinted why) report reported pages old new = (others : List Step) × (last : Step) × (pages ≡ others ++ last ∷ []) × BreaksOffBy report why reported others last old new
 
 -- this version is in force, and the pages of some entities, the least first, are mapped by it, and had room; their steps are told
 pub record RemapsPages (halt : Halt) (report : Report) (limit reported : ℕ) (version : MappingVersion) (records : Records) (before now : Mapped) (old new : Output) : Type 0 where

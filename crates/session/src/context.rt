@@ -2,14 +2,11 @@
 
 ghost use Rattle.std.specs.Prelude.{◌≡◌, ◌+◌, ◌-◌, ◌^◌, ◌<◌, List};
 ghost use Rattle.rdf_term.specs.declared.triple.Triple.{Triple as TheTriple};
-ghost use Rattle.replay_model.specs.Transcript.{for_bindings, for_triples};
-ghost use Rattle.replay_model.specs.Versions.{meaning_by};
-ghost use Rattle.world.specs.Changing.{Tells};
-ghost use Rattle.world.specs.Meaning.{meaning};
+ghost use Rattle.replay_model.specs.{Transcript.for_bindings, Transcript.for_triples, Versions.meaning_by};
+ghost use Rattle.world.specs.{Changing.Tells, Meaning.meaning};
 ghost use Rattle.text_output.specs.Printing.{Prints, output};
 ghost use Rattle.patch_stream.specs.Stream.{step};
-ghost use Rattle.session.specs.Answering.{answer_text};
-ghost use Rattle.session.specs.Counts.{HasWrittenOn};
+ghost use Rattle.session.specs.{Answering.answer_text, Counts.HasWrittenOn};
 ghost use Rattle.session.specs.Report.{AnswersQuestion, HasNumberLeft, TellsStepBy, telling_of};
 ghost use Rattle.splitting.specs.Graphs.{MayFollow, routes_of};
 

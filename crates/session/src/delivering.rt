@@ -3,15 +3,12 @@
 ghost use Rattle.std.specs.Prelude.{◌≡◌, ◌≤◌, false, IfErr, IfOk, None, OnErr, OnOk};
 ghost use Rattle.drill_replay.specs.Playing.{answer_of};
 ghost use Rattle.reorder_buffer.specs.Buffered.{answer_to};
-ghost use Rattle.replay_model.specs.ReplayState.{after_end, after_event, after_mark};
-ghost use Rattle.replay_model.specs.Transcript.{question_of};
+ghost use Rattle.replay_model.specs.{ReplayState.after_end, ReplayState.after_event, ReplayState.after_mark, Transcript.question_of};
 ghost use Rattle.splitting.specs.Graphs.{MayFollow, routes_of};
 ghost use Rattle.text_output.specs.Printing.{output};
-ghost use Rattle.session.specs.declared.report.Report.TheVariants.{Answers};
-ghost use Rattle.session.specs.Counts.{HasGoneOn, HasWrittenOn};
+ghost use Rattle.session.specs.{declared.report.Report.TheVariants.Answers, Counts.HasGoneOn, Counts.HasWrittenOn};
 ghost use Rattle.session.specs.Moment.{environment, stage, with_world};
-ghost use Rattle.session.specs.Remapping.{HoldsWithin, KeepsVersion, mapped_in};
-ghost use Rattle.session.specs.Report.{HasNumberLeft};
+ghost use Rattle.session.specs.{Remapping.HoldsWithin, Remapping.KeepsVersion, Remapping.mapped_in, Report.HasNumberLeft};
 ghost use Rattle.session.specs.Taking.{AppliesDue, CutsOff, IsHeldUp, StaysWithin, TakesDelivery, turn};
 
 use crate::context::{Context, Incoming};
@@ -191,7 +188,7 @@ fn apply_due<R: Revisions, K: Sink>(
                 follow_application(graphs, &applied, routed);
                 match context.tell(reported, change, out) {
                     Ok(now) => reported = now,
-                    Err(why) => return Err(Halt::Untold(why)),
+                    Err(why) => return Err(Halt::Unprinted(why)),
                 }
             }
             Err(WorldFault::Nothing) => return Ok(reported),

@@ -6,10 +6,9 @@ ghost use Rattle.text_output.specs.Printing.{Output, output};
 ghost use Rattle.drill.specs.Drill.{IsSize, drill};
 ghost use Rattle.drill_replay.specs.Playing.{Counted, HasBegun, HasFew, IsByFirst, IsPartOf, StandsAtEnd};
 ghost use Rattle.drill_replay.specs.Summary.{drilled};
-ghost use Rattle.session.specs.declared.stop.Halt.TheVariants.{Unapplied};
-ghost use Rattle.session.specs.declared.stop.Stop.TheVariants.{OutOfMemory as Refused};
-ghost use Rattle.term_pool.specs.declared.fault.PoolFault.TheVariants.{OutOfMemory as Starved};
+ghost use Rattle.session.specs.{declared.stop.Halt.TheVariants.Unapplied, declared.stop.Stop.TheVariants.OutOfMemory as Refused};
 ghost use Rattle.session.specs.DrillPlaying.{HasTakenFirst, LeavesDrill};
+ghost use Rattle.term_pool.specs.declared.fault.PoolFault.TheVariants.{OutOfMemory as Starved};
 
 use crate::context::{Context, Incoming};
 use crate::delivering::{deliver, take_end};

@@ -4,9 +4,7 @@ ghost use Rattle.std.specs.Prelude.{◌≡◌, ◌≤◌, IfErr, OnOk};
 ghost use Rattle.replay_model.specs.ReplayState.{nothing_delivered};
 ghost use Rattle.text_output.specs.Printing.{output};
 ghost use Rattle.drill_replay.specs.Playing.{IsByFirst};
-ghost use Rattle.session.specs.Counts.{HasWrittenOn};
-ghost use Rattle.session.specs.Drilling.{DrillStopped, HasDrilled};
-ghost use Rattle.session.specs.Remapping.{HoldsWithin};
+ghost use Rattle.session.specs.{Counts.HasWrittenOn, Drilling.DrillStopped, Drilling.HasDrilled, Remapping.HoldsWithin};
 ghost use Rattle.words.specs.Plan.{greatest_size};
 
 use crate::drill_playing::play;

@@ -6,15 +6,14 @@
 //! whose deliveries `drill_playing` takes. `task` is what is asked of a replay. `taking` takes the lines of the input, `delivering` one
 //! delivery, and the end, and `remapping` a change of the mapping; `report` is what is reported of them, answers or changes, and `context`
 //! writes it. `ports` are what a run reads and writes, `stop` is why it stopped, and `status` how it ended. The crate `words` reads the
-//! arguments, `transcript` has what is printed, and `drill_replay` the summary of a drill. `laws` says what follows from the contract of
-//! `run` if nothing goes wrong.
+//! arguments, `transcript` has what is printed, and `drill_replay` the summary of a drill. The crate `session_laws` says what follows from the
+//! contract of `run` if nothing goes wrong.
 #![tactic(auto)]
 
 mod context;
 mod delivering;
 mod drill_playing;
 mod drilling;
-mod laws;
 mod ports;
 mod records;
 mod remapping;
@@ -28,14 +27,6 @@ mod stop;
 mod taking;
 mod task;
 
-pub use laws::{
-    a_saved_replay_is_read_back, first_runs_are_whole_replays, first_runs_stand_after_nothing,
-    fitting_input_is_replayed, followers_have_what_was_held, found_pages_leave_no_entries,
-    good_input_goes_on_from_saved_worlds, good_input_is_replayed, numbers_of_a_run_fit,
-    resumed_runs_begin_where_others_stood, runs_go_on_as_one, saved_worlds_are_gone_on_from,
-    settled_pages_are_the_union, told_pages_have_room, two_runs_are_one,
-    unsettled_pages_have_no_document, written_streams_are_records,
-};
 pub use ports::Ports;
 pub use running::run;
 pub use status::{Status, status_number, status_text};

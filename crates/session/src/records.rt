@@ -3,11 +3,8 @@
 ghost use Rattle.std.specs.Prelude.{◌≡◌, IfErr, IfSome, OnOk};
 ghost use Rattle.replay_model.specs.ReplayState.{nothing_delivered};
 ghost use Rattle.words.specs.Options.{follow_max_bytes_of};
-ghost use Rattle.following.specs.Following.{Ending, follow_moment};
-ghost use Rattle.following.specs.Reading.{TakesLinesByNeed};
-ghost use Rattle.session.specs.Counts.{HaveGoneOn};
-ghost use Rattle.session.specs.Records.{FollowStopped};
-ghost use Rattle.session.specs.Remapping.{HoldsWithin};
+ghost use Rattle.following.specs.{Following.Ending, Following.follow_moment, Reading.TakesLinesByNeed};
+ghost use Rattle.session.specs.{Counts.HaveGoneOn, Records.FollowStopped, Remapping.HoldsWithin};
 
 use crate::ports::Ports;
 use crate::stop::Stop;

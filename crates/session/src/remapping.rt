@@ -6,12 +6,8 @@ ghost use Rattle.drill_replay.specs.Playing.{IsByFirst};
 ghost use Rattle.splitting.specs.Graphs.{MayFollow, routes_of};
 ghost use Rattle.text_output.specs.Printing.{output};
 ghost use Rattle.patch_stream.specs.Stream.{steps_anew};
-ghost use Rattle.session.specs.declared.report.Report.TheVariants.{Answers};
-ghost use Rattle.session.specs.Counts.{HasWrittenOn};
-ghost use Rattle.session.specs.Needed.{HaveRoom, needed_anew};
-ghost use Rattle.session.specs.Remapping.{HoldsWithin, mapped_by, mapped_in};
-ghost use Rattle.session.specs.Report.{TellsBy};
-ghost use Rattle.session.specs.Taking.{RemapsPages};
+ghost use Rattle.session.specs.{declared.report.Report.TheVariants.Answers, Counts.HasWrittenOn, Needed.HaveRoom, Needed.needed_anew};
+ghost use Rattle.session.specs.{Remapping.HoldsWithin, Remapping.mapped_by, Remapping.mapped_in, Report.TellsBy, Taking.RemapsPages};
 
 use crate::context::Context;
 use crate::stop::Halt;
@@ -72,7 +68,7 @@ pub fn take_mapping<K: Sink>(
                 follow_remapping(graphs, entity, &triples);
                 match context.tell(reported, change, out) {
                     Ok(now) => reported = now,
-                    Err(why) => return Err(Halt::Untold(why)),
+                    Err(why) => return Err(Halt::Unprinted(why)),
                 }
             }
             Ok(None) => unreachable!(),

@@ -4,12 +4,10 @@ ghost use Rattle.std.specs.Prelude.{◌≡◌, ◌≢◌, ◌↔◌, None, Some,
 ghost use Rattle.std.specs.FinMap as map;
 ghost use Rattle.checkpoint.specs.Saved.{AreWithin};
 ghost use Rattle.replay_model.specs.ReplayState.{nothing_delivered};
-ghost use Rattle.splitting.specs.Filling.{IsReadyFor};
-ghost use Rattle.splitting.specs.Graphs.{GraphsState, MayFollow, routes_of};
+ghost use Rattle.splitting.specs.{Filling.IsReadyFor, Graphs.GraphsState, Graphs.MayFollow, Graphs.routes_of};
 ghost use Rattle.words.specs.Options.{max_terms_of};
 ghost use Rattle.wq_io.specs.Streams.{IsAtEnd};
-ghost use Rattle.session.specs.Counts.{HasReadOn, HaveGoneOn};
-ghost use Rattle.session.specs.Headline.{ReplayEnding};
+ghost use Rattle.session.specs.{Counts.HasReadOn, Counts.HaveGoneOn, Headline.ReplayEnding};
 ghost use Rattle.session.specs.Moment.{behind, moment, no_numbers, run_of, world_at_start};
 ghost use Rattle.session.specs.Remapping.{HoldsWithin, mapped_in};
 ghost use Rattle.session.specs.Resuming.{AllowsHorizon, IsRefusedFor, IsSnapshotOf, ResumeEnding};

@@ -3,21 +3,13 @@
 ghost use Rattle.std.specs.Prelude.{◌≡◌, ◌⊎◌, ℕ, List, None, Some, IsSome, map, string_bytes};
 ghost use Rattle.replay_model.specs.ReplayState.{nothing_delivered};
 ghost use Rattle.drill_replay.specs.Playing.{IsByFirst};
-ghost use Rattle.session.specs.declared.report.Report.TheVariants.{Answers, Changes};
-ghost use Rattle.session.specs.Counts.{HaveGoneOn};
-ghost use Rattle.session.specs.Drilling.{DrillEnding};
-ghost use Rattle.session.specs.Records.{FollowEnding};
-ghost use Rattle.session.specs.Headline.{ReplayEnding};
-ghost use Rattle.session.specs.Moment.{moment, run_of, stage, world_at_start};
-ghost use Rattle.session.specs.Remapping.{HoldsWithin};
-ghost use Rattle.session.specs.Resuming.{ResumeEnding};
-ghost use Rattle.session.specs.Room.{limit_of_plan};
-ghost use Rattle.session.specs.Understood.{IsNotUnderstood};
+ghost use Rattle.session.specs.{declared.report.Report.TheVariants.Answers, declared.report.Report.TheVariants.Changes, Counts.HaveGoneOn};
+ghost use Rattle.session.specs.{Drilling.DrillEnding, Records.FollowEnding, Headline.ReplayEnding};
+ghost use Rattle.session.specs.{Moment.moment, Moment.run_of, Moment.stage, Moment.world_at_start, Remapping.HoldsWithin};
+ghost use Rattle.session.specs.{Resuming.ResumeEnding, Room.limit_of_plan, Understood.IsNotUnderstood};
 ghost use Rattle.following.specs.Following.{follow_moment};
-ghost use Rattle.graph_routes.specs.declared.routes.Route.{Route};
-ghost use Rattle.graph_routes.specs.Routes.{AreRoutesIn};
-ghost use Rattle.words.specs.Options.{Choices, FollowChoices, SplitChoices};
-ghost use Rattle.words.specs.Plan.{plan_of};
+ghost use Rattle.graph_routes.specs.{declared.routes.Route.Route, Routes.AreRoutesIn};
+ghost use Rattle.words.specs.{Options.Choices, Options.FollowChoices, Options.SplitChoices, Plan.plan_of};
 ghost use Rattle.words.specs.declared.plan.Plan.{Plan as ThePlan};
 ghost use Rattle.words.specs.declared.plan.Plan.TheVariants.{Replay, Drill, Patches, Follow, Split};
 

@@ -2,14 +2,9 @@
 
 ghost use Rattle.std.specs.Prelude.{◌≡◌, ◌⊎◌, List, None, Some, IsSome};
 ghost use Rattle.replay_model.specs.ReplayState.{nothing_delivered};
-ghost use Rattle.graph_routes.specs.declared.routes.Route.{Route};
-ghost use Rattle.graph_routes.specs.Routes.{AreRoutesIn};
-ghost use Rattle.session.specs.declared.report.Report.TheVariants.{Answers};
-ghost use Rattle.session.specs.Counts.{HaveGoneOn};
-ghost use Rattle.session.specs.Headline.{ReplayEnding};
-ghost use Rattle.session.specs.Moment.{moment, run_of, world_at_start};
-ghost use Rattle.session.specs.Remapping.{HoldsWithin};
-ghost use Rattle.session.specs.Resuming.{ResumeEnding};
+ghost use Rattle.graph_routes.specs.{declared.routes.Route.Route, Routes.AreRoutesIn};
+ghost use Rattle.session.specs.{declared.report.Report.TheVariants.Answers, Counts.HaveGoneOn, Headline.ReplayEnding};
+ghost use Rattle.session.specs.{Moment.moment, Moment.run_of, Moment.world_at_start, Remapping.HoldsWithin, Resuming.ResumeEnding};
 ghost use Rattle.words.specs.Options.{max_terms_of};
 
 use crate::ports::Ports;

@@ -1,8 +1,7 @@
 // Why a run stopped.
 
 ghost use Rattle.std.specs.Prelude.{◌≡◌, Some};
-ghost use Rattle.session.specs.Stop.{cause_of_record, stop_of};
-ghost use Rattle.session.specs.declared.stop.Stop.TheVariants.{OutOfMemory as Refused};
+ghost use Rattle.session.specs.{Stop.cause_of_record, Stop.stop_of, declared.stop.Stop.TheVariants.OutOfMemory as Refused};
 
 use crate::status::Status;
 use checkpoint::LoadFault;
@@ -18,8 +17,8 @@ use wq_io::LineFault;
 pub enum Halt {
     // The least due event wasn't applied, and stays due; or a page wasn't remapped.
     Unapplied(StoreFault),
-    // The last event that was applied, or the last remapped page, wasn't told wholly.
-    Untold(Unwritten),
+    // The last event that was applied, or the last remapped page, wasn't printed wholly.
+    Unprinted(Unwritten),
 }
 
 // Why a run stopped that was begun, or that was to go on from a snapshot.
@@ -86,7 +85,7 @@ impl From<Halt> for Stop {
     fn from(halt: Halt) -> Stop {
         match halt {
             Halt::Unapplied(why) => Stop::from(why),
-            Halt::Untold(why) => Stop::from(why),
+            Halt::Unprinted(why) => Stop::from(why),
         }
     }
 }

@@ -3,17 +3,11 @@
 ghost use Rattle.std.specs.Prelude.{◌≡◌, ◌⊎◌, ◌∷◌, [], Ok, Err, IfErr, IfOk, IfSome, OnOk};
 ghost use Rattle.checkpoint.specs.Saved.{AreWithin};
 ghost use Rattle.replay_model.specs.Transcript.{matches};
-ghost use Rattle.event_line.specs.declared.faults.LineCause.{LineCause};
-ghost use Rattle.event_line.specs.Line.{delivery_of};
+ghost use Rattle.event_line.specs.{declared.faults.LineCause.LineCause, Line.delivery_of};
 ghost use Rattle.splitting.specs.Graphs.{MayFollow, routes_of};
 ghost use Rattle.session.specs.declared.stop.Stop.TheVariants.{BadLine, OutOfMemory as Refused};
-ghost use Rattle.session.specs.Counts.{HaveGoneOn};
-ghost use Rattle.session.specs.Headline.{Stopped};
-ghost use Rattle.session.specs.Moment.{behind, moment, run_of};
-ghost use Rattle.session.specs.Reading.{TakesByNeed};
-ghost use Rattle.session.specs.Remapping.{HoldsWithin, mapped_in};
-ghost use Rattle.session.specs.Stops.{HasTaken};
-ghost use Rattle.session.specs.Taking.{IsStanding};
+ghost use Rattle.session.specs.{Counts.HaveGoneOn, Headline.Stopped, Moment.behind, Moment.moment, Moment.run_of, Reading.TakesByNeed};
+ghost use Rattle.session.specs.{Remapping.HoldsWithin, Remapping.mapped_in, Stops.HasTaken, Taking.IsStanding};
 ghost use Rattle.words.specs.Options.{max_bytes_of, max_terms_of};
 
 use crate::context::{Context, Incoming};

@@ -2,16 +2,12 @@
 
 ghost use Rattle.std.specs.Prelude.{◌≡◌, [], ◌∷◌, ◌++◌, IfOk, OnOk, map, string_bytes};
 ghost use Rattle.std.specs.List.{AllByRecursion};
-ghost use Rattle.rdf_term.specs.Fit.{HasFitAndShortTerms};
+ghost use Rattle.rdf_term.specs.{Fit.HasFitAndShortTerms, Grammar.tagged_of};
 ghost use Rattle.entity_model.specs.Document.{IsSmallLink};
-ghost use Rattle.rdf_vocabulary.specs.Predicate.{about};
-ghost use Rattle.rdf_vocabulary.specs.Unreserved.{escaped_name};
+ghost use Rattle.rdf_vocabulary.specs.{Predicate.about, Unreserved.escaped_name};
 ghost use Rattle.sitelinks.specs.Replaced.{replaced};
-ghost use Rattle.triple_sink.specs.Gains.{Gains, KeepsFront};
-ghost use Rattle.triple_sink.specs.Subject.{IsKnown};
-ghost use Rattle.triple_sink.specs.TermRef.{meant};
 ghost use Rattle.sitelinks.specs.Article.{article_iri, article_triples, badge_triple, group_triple, article_head_triples, site_triples};
-ghost use Rattle.rdf_term.specs.Grammar.{tagged_of};
+ghost use Rattle.triple_sink.specs.{Gains.Gains, Gains.KeepsFront, Subject.IsKnown, TermRef.meant};
 
 use crate::lookup::site;
 use crate::replaced::around;

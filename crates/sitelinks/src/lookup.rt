@@ -1,8 +1,7 @@
 // Sites by their ids.
 
 ghost use Rattle.std.specs.Prelude.{◌≡◌, ◌++◌, IfOk, string_bytes};
-ghost use Rattle.sitelinks.specs.Names.{IsNamed};
-ghost use Rattle.sitelinks.specs.Site.{language_base, language_site, site_of, special_site};
+ghost use Rattle.sitelinks.specs.{Names.IsNamed, Site.language_base, Site.language_site, Site.site_of, Site.special_site};
 
 use crate::language::is_language;
 use crate::project::{Project, coded};

@@ -4,9 +4,7 @@ ghost use Rattle.std.specs.Prelude.{◌≡◌, ◌+◌, ◌*◌, ◌^◌, ◌<�
 ghost use Rattle.std.specs.FinMap as map;
 ghost use Rattle.rising.specs.Rising.{IsRising};
 ghost use Rattle.block_index.specs.Steps.{WithinSteps};
-ghost use Rattle.slot_index.specs.declared.key.Key.{Key as TheKey};
-ghost use Rattle.slot_index.specs.Keys.{key_cmp};
-ghost use Rattle.slot_index.specs.Patterns.{slots_agree};
+ghost use Rattle.slot_index.specs.{declared.key.Key.Key as TheKey, Keys.key_cmp, Patterns.slots_agree};
 ghost use Rattle.slot_index.specs.Counts.{HaveOwners, count_of, lowered, raised};
 
 use crate::counting::{lower, owners, raise};
@@ -30,8 +28,7 @@ pub struct SlotIndex {
 }
 
 impl Model for SlotIndex {
-    ghost use Rattle.slot_index.specs.Counts.{KeyCounts, counts_code, counts_of};
-    ghost use Rattle.slot_index.specs.Counted.{IsCounted, with_more};
+    ghost use Rattle.slot_index.specs.{Counts.KeyCounts, Counts.counts_code, Counts.counts_of, Counted.IsCounted, Counted.with_more};
 
     ghost Value = { KeyCounts };
 

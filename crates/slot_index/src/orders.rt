@@ -1,16 +1,10 @@
 // The set of triples in three orders.
 
 ghost use Rattle.std.specs.Prelude.{◌≡◌, ◌+◌, ◌*◌, ◌^◌, ◌<◌, ◌≤◌, ◌&&◌, ℕ, Bool, true, not, [], length, map, filter, count_by, IfOk, OnOk, OnErr};
-ghost use Rattle.std.specs.Bool.{OnFalse};
-ghost use Rattle.std.specs.List.{All};
-ghost use Rattle.std.specs.Ordering.{eq_by_cmp};
-ghost use Rattle.std.specs.BTreeSet.{insert_key};
-ghost use Rattle.std.specs.Set.{remove_key};
+ghost use Rattle.std.specs.{Bool.OnFalse, List.All, Ordering.eq_by_cmp, BTreeSet.insert_key, Set.remove_key};
 ghost use Rattle.rising.specs.Rising.{IsRising, has};
-ghost use Rattle.block_index.specs.Steps.{WithinSteps};
-ghost use Rattle.block_index.specs.Blocks.{keys_of};
-ghost use Rattle.slot_index.specs.declared.key.Key.{Key as TheKey};
-ghost use Rattle.slot_index.specs.Keys.{FitsSlots, key_cmp, turned};
+ghost use Rattle.block_index.specs.{Steps.WithinSteps, Blocks.keys_of};
+ghost use Rattle.slot_index.specs.{declared.key.Key.Key as TheKey, Keys.FitsSlots, Keys.key_cmp, Keys.turned};
 ghost use Rattle.slot_index.specs.Patterns.{slots_agree, leads};
 
 use crate::key::Key;
@@ -32,8 +26,7 @@ pub struct Orders {
 impl Model for Orders {
     ghost use Rattle.std.specs.Prelude.{List as Items};
     ghost use Rattle.block_index.specs.Blocks.{keys_of};
-    ghost use Rattle.slot_index.specs.declared.key.Key.{Key};
-    ghost use Rattle.slot_index.specs.Orders.{IsOrders};
+    ghost use Rattle.slot_index.specs.{declared.key.Key.Key, Orders.IsOrders};
 
     ghost Value = { Items Key };
 

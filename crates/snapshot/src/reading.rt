@@ -1,8 +1,7 @@
 // Which line of a snapshot a JSON value is, where a page may stand behind it.
 
 ghost use Rattle.std.specs.Prelude.{◌≡◌, IfOk, codes, option_map};
-ghost use Rattle.serde_json.specs.View.{view};
-ghost use Rattle.serde_json.specs.Find.{get};
+ghost use Rattle.serde_json.specs.{View.view, Find.get};
 ghost use Rattle.snapshot.specs.LineReading.{nat_in, id_in, if_there, or_null, at_key, event_in, page_in, held_in, held_or_null, is_format, head_in, state_in, record_in, revision_in, entry_in, entity_in, side_in, line_in};
 
 use crate::line::{Head, Line};

@@ -2,10 +2,8 @@
 
 ghost use Rattle.std.specs.Prelude.{◌≡◌, ◌++◌, IfOk, Some, codes, option_and_then, option_map, string_bytes};
 ghost use Rattle.wq_io.specs.Lines.{IsOneLine};
-ghost use Rattle.serde_json.specs.View.{view};
-ghost use Rattle.serde_json.specs.Read.{read as data_of};
-ghost use Rattle.snapshot.specs.Fit.{IsFitLine};
-ghost use Rattle.snapshot.specs.LineReading.{line_in};
+ghost use Rattle.serde_json.specs.{View.view, Read.read as data_of};
+ghost use Rattle.snapshot.specs.{Fit.IsFitLine, LineReading.line_in};
 ghost use Rattle.snapshot.specs.LineText.{IsClosed, line_text, line_of, page_behind, page_of, with_page};
 
 use crate::line::Line;
@@ -20,8 +18,8 @@ use std::alloc::Global;
 /// How many bytes come with a page that stands behind a record: a comma, a TAB and the key before it, and a line feed behind its brace.
 const AROUND_A_PAGE: usize = 10;
 
-/// The text of a line: one JSON object (RFC 8259) without a line feed. Its keys rise, with no space between them; but a page without a line
-/// feed stands as it is behind the other members of its record, after a comma and a TAB.
+/// The text of a line, without a line feed. It is one JSON object (RFC 8259) where a page is a JSON text. Its keys rise, with no space
+/// between them; but a page without a line feed stands as it is behind the other members of its record, after a comma and a TAB.
 pub fn write(alloc: Global, line: &Line) -> Result<String, OutOfMemory>
     ensures text { IfOk result (λ s. string_bytes s ≡ line_text line.now) }
     ensures one_line { IfOk result (λ s. IsOneLine (string_bytes s)) }

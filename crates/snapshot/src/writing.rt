@@ -1,11 +1,9 @@
 // The JSON value of each line, and its text.
 
 ghost use Rattle.std.specs.Prelude.{◌≡◌, IfOk, codes, string_bytes};
-ghost use Rattle.serde_json.specs.Data.{no_members, member, string, object};
-ghost use Rattle.serde_json.specs.View.{view, members_view};
+ghost use Rattle.serde_json.specs.{Data.no_members, Data.member, Data.string, Data.object, View.view, View.members_view};
 ghost use Rattle.side_output.specs.declared.entry.Entry.TheVariants.{Revision};
-ghost use Rattle.snapshot.specs.declared.line.Line.TheVariants.{End};
-ghost use Rattle.snapshot.specs.Words.{mode_word, version_number};
+ghost use Rattle.snapshot.specs.{declared.line.Line.TheVariants.End, Words.mode_word, Words.version_number};
 ghost use Rattle.snapshot.specs.LineData.{has_line_feed, if_some, nat_data, int_data, event_data, event_members, held_data, head_data, record_data, entry_data, line_data};
 
 use crate::line::{Head, Line};

@@ -4,13 +4,11 @@ ghost use Rattle.std.specs.Prelude.{◌≡◌, ◌≤◌, ◌+◌, None, length,
 ghost use Rattle.std.specs.FinMap as map;
 ghost use Rattle.std.specs.List.{AllByRecursion};
 ghost use Rattle.rising.specs.Rising.{sorted};
-ghost use Rattle.rdf_term.specs.Fit.{HasFitAndShortTerms};
-ghost use Rattle.rdf_term.specs.Order.{triple_cmp};
+ghost use Rattle.rdf_term.specs.{Fit.HasFitAndShortTerms, Order.triple_cmp};
 ghost use Rattle.entity_json.specs.Document.{unfit_of};
 ghost use Rattle.entity_model.specs.Document.{IsDocumentOf, IsSmall};
 ghost use Rattle.graph_routes.specs.Routing.{route_of};
-ghost use Rattle.world.specs.Meaning.{document_triples};
-ghost use Rattle.world.specs.Routed.{IsRouted};
+ghost use Rattle.world.specs.{Meaning.document_triples, Routed.IsRouted};
 ghost use Rattle.splitting.specs.Filling.{AreAmong, HaveEntries, IsReadyFor, entry_in, with_entry};
 ghost use Rattle.splitting.specs.Graphs.{AreEntriesOf};
 

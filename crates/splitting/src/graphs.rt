@@ -3,15 +3,12 @@
 ghost use Rattle.std.specs.Prelude.{◌≡◌, ◌<◌, ◌≤◌, ℕ, List, Option, Some, IfOk, OnOk};
 ghost use Rattle.std.specs.FinMap as map;
 ghost use Rattle.std.specs.List.{AllByRecursion};
-ghost use Rattle.rdf_term.specs.Fit.{HasFitAndShortTerms};
+ghost use Rattle.rdf_term.specs.{Fit.HasFitAndShortTerms, Order.triple_cmp};
 ghost use Rattle.replay_model.specs.Records.{record_of};
 ghost use Rattle.revisions.specs.Revisions.{Contents};
-ghost use Rattle.rdf_term.specs.Order.{triple_cmp};
 ghost use Rattle.rising.specs.Rising.{sorted};
-ghost use Rattle.subgraph.specs.Entries.{graph_triples, terms_with};
-ghost use Rattle.subgraph.specs.Split.{entry, graph_of};
-ghost use Rattle.world.specs.Applying.{Applies};
-ghost use Rattle.world.specs.Routed.{AreTriplesOf, GivesPage};
+ghost use Rattle.subgraph.specs.{Entries.graph_triples, Entries.terms_with, Split.entry, Split.graph_of};
+ghost use Rattle.world.specs.{Applying.Applies, Routed.AreTriplesOf, Routed.GivesPage};
 ghost use Rattle.world.specs.WorldState.{AreHolders, WorldState, by_two_after, next_stale, remapped};
 ghost use Rattle.splitting.specs.Graphs.{AreEntriesAfter, AreEntriesAnew, Follow, HasRoomAnewIn, HasRoomIn, HaveRoom, HaveRoomAnew, IsSound, IsSoundFor};
 
@@ -39,8 +36,7 @@ pub struct Graphs {
 impl Model for Graphs {
     ghost use Rattle.std.specs.Prelude.{◌≡◌, ◌+◌, IfSome, length, option_map};
     ghost use Rattle.subgraph.specs.Entries.{SplitState};
-    ghost use Rattle.splitting.specs.Codes.{graphs_code};
-    ghost use Rattle.splitting.specs.Graphs.{GraphsState};
+    ghost use Rattle.splitting.specs.{Codes.graphs_code, Graphs.GraphsState};
 
     ghost Value = { GraphsState };
 

@@ -1,18 +1,12 @@
 // What holds of the definitions themselves. Each law is the contract of a function that does nothing.
 
 ghost use Rattle.std.specs.Prelude.{◌≡◌, ℕ, Bool, IsTrue, List, map, ◌↔◌};
-ghost use Rattle.std.specs.Str.{encode_utf8_all};
+ghost use Rattle.std.specs.{Str.encode_utf8_all, List.AllByRecursion};
 ghost use Rattle.rising.specs.Rising.{In};
-ghost use Rattle.std.specs.List.{AllByRecursion};
-ghost use Rattle.rdf_term.specs.declared.term.Term.{Term};
-ghost use Rattle.rdf_term.specs.declared.triple.Triple.{Triple};
-ghost use Rattle.rdf_term.specs.Fit.{HasFitAndShortTerms, IsFitAndShort};
-ghost use Rattle.entity_model.specs.Statement.{IsSmallStatement};
-ghost use Rattle.entity_model.specs.declared.mapping.MappingVersion.{MappingVersion};
+ghost use Rattle.rdf_term.specs.{declared.term.Term.Term, declared.triple.Triple.Triple, Fit.HasFitAndShortTerms, Fit.IsFitAndShort};
+ghost use Rattle.entity_model.specs.{Statement.IsSmallStatement, declared.mapping.MappingVersion.MappingVersion};
 ghost use Rattle.entity_model.specs.declared.statement.Statement.{Statement};
-ghost use Rattle.statement_rdf.specs.Gives.{StatementGives};
-ghost use Rattle.statement_rdf.specs.Node.{name_char, statement_name};
-ghost use Rattle.statement_rdf.specs.Ranking.{is_best, IsBest};
+ghost use Rattle.statement_rdf.specs.{Gives.StatementGives, Node.name_char, Node.statement_name, Ranking.is_best, Ranking.IsBest};
 ghost use Rattle.statement_rdf.specs.Statement.{statement_triples};
 
 /// A statement is best exactly where it isn't deprecated and no statement of its property is ranked higher.

@@ -1,10 +1,8 @@
 // Which statements of a list are best.
 
 ghost use Rattle.std.specs.Prelude.{◌≡◌, ℕ, [], ◌∷◌, ◌||◌, map, IfOk, OnOk};
-ghost use Rattle.std.specs.BTreeMap.{get};
-ghost use Rattle.std.specs.List.{list_any};
-ghost use Rattle.entity_model.specs.declared.id.EntityId.{EntityId as Id};
-ghost use Rattle.entity_model.specs.EntityId.{entity_cmp};
+ghost use Rattle.std.specs.{BTreeMap.get, List.list_any};
+ghost use Rattle.entity_model.specs.{declared.id.EntityId.EntityId as Id, EntityId.entity_cmp};
 ghost use Rattle.statement_rdf.specs.Ranking.{has_rank_above, is_above, is_best, is_highest, is_ranked_above};
 
 use entity_model::{EntityId, Rank, Statement};

@@ -2,13 +2,8 @@
 
 ghost use Rattle.std.specs.Prelude.{◌≡◌, [], ◌∷◌, ◌++◌, OnOk};
 ghost use Rattle.std.specs.List.{flat_map};
-ghost use Rattle.triple_sink.specs.Gains.{Gains, KeepsFront};
-ghost use Rattle.triple_sink.specs.Subject.{IsKnown};
-ghost use Rattle.triple_sink.specs.TermRef.{meant};
-ghost use Rattle.value_nodes.specs.Name.{node_name};
-ghost use Rattle.value_nodes.specs.Nodes.{node_triples};
-ghost use Rattle.value_nodes.specs.Said.{object_triples};
-ghost use Rattle.value_nodes.specs.Terms.{simple_term};
+ghost use Rattle.triple_sink.specs.{Gains.Gains, Gains.KeepsFront, Subject.IsKnown, TermRef.meant};
+ghost use Rattle.value_nodes.specs.{Name.node_name, Nodes.node_triples, Said.object_triples, Terms.simple_term};
 ghost use Rattle.rdf_vocabulary.specs.Prefix.{id_term};
 ghost use Rattle.statement_rdf.specs.Snak.{link_triples, no_value_triple, snak_triples, value_triples};
 

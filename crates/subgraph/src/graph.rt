@@ -2,18 +2,13 @@
 
 ghost use Rattle.std.specs.Prelude.{◌≡◌, ◌<◌, ◌≤◌, cond, None, Some, Err, IfOk, OnOk, OnErr};
 ghost use Rattle.std.specs.FinMap as map;
-ghost use Rattle.std.specs.List.{AllByRecursion};
-ghost use Rattle.std.specs.Ordering.{eq_by_cmp};
+ghost use Rattle.std.specs.{List.AllByRecursion, Ordering.eq_by_cmp};
 ghost use Rattle.indexmap.specs.IndexMap.{spare};
 ghost use Rattle.rising.specs.Rising.{sorted};
-ghost use Rattle.rdf_term.specs.Fit.{HasFitAndShortTerms};
-ghost use Rattle.rdf_term.specs.Order.{triple_cmp};
-ghost use Rattle.rdf_term.specs.Pattern.{rows};
-ghost use Rattle.entity_model.specs.declared.id.EntityId.{EntityId as Id};
-ghost use Rattle.entity_model.specs.EntityId.{entity_cmp};
+ghost use Rattle.rdf_term.specs.{Fit.HasFitAndShortTerms, Order.triple_cmp, Pattern.rows};
+ghost use Rattle.entity_model.specs.{declared.id.EntityId.EntityId as Id, EntityId.entity_cmp};
 ghost use Rattle.term_pool.specs.declared.fault.PoolFault.TheVariants.{Full};
-ghost use Rattle.subgraph.specs.Entries.{terms_with, union_of};
-ghost use Rattle.subgraph.specs.Graph.{keys_at, rising_keys};
+ghost use Rattle.subgraph.specs.{Entries.terms_with, Entries.union_of, Graph.keys_at, Graph.rising_keys};
 
 use base::OutOfMemory;
 use entity_model::EntityId;
@@ -35,9 +30,7 @@ pub struct Graph {
 
 impl Model for Graph {
     ghost use Rattle.triple_store.specs.StoreState.{limit_of};
-    ghost use Rattle.subgraph.specs.Codes.{graph_code};
-    ghost use Rattle.subgraph.specs.Entries.{GraphState};
-    ghost use Rattle.subgraph.specs.Graph.{IsInStep, sets_in};
+    ghost use Rattle.subgraph.specs.{Codes.graph_code, Entries.GraphState, Graph.IsInStep, Graph.sets_in};
 
     ghost Value = { GraphState };
 

@@ -4,12 +4,9 @@ ghost use Rattle.std.specs.Prelude.{◌≡◌, ◌<◌, ◌≤◌, Err, IfOk, If
 ghost use Rattle.std.specs.FinMap as map;
 ghost use Rattle.std.specs.List.{AllByRecursion};
 ghost use Rattle.rising.specs.Rising.{IsRising, sorted};
-ghost use Rattle.rdf_term.specs.Fit.{HasFitAndShortTerms};
-ghost use Rattle.rdf_term.specs.Order.{triple_cmp};
-ghost use Rattle.rdf_term.specs.Pattern.{rows};
+ghost use Rattle.rdf_term.specs.{Fit.HasFitAndShortTerms, Order.triple_cmp, Pattern.rows};
 ghost use Rattle.term_pool.specs.declared.fault.PoolFault.TheVariants.{Full};
-ghost use Rattle.subgraph.specs.Entries.{graph_triples, terms_with};
-ghost use Rattle.subgraph.specs.Split.{entry, graph_of};
+ghost use Rattle.subgraph.specs.{Entries.graph_triples, Entries.terms_with, Split.entry, Split.graph_of};
 
 use crate::graph::Graph;
 use crate::placing::{clear_in, graph_with, set_in};
@@ -35,10 +32,7 @@ pub struct Split {
 
 impl Model for Split {
     ghost use Rattle.std.specs.Prelude.{length};
-    ghost use Rattle.subgraph.specs.Codes.{split_code};
-    ghost use Rattle.subgraph.specs.Entries.{SplitState};
-    ghost use Rattle.subgraph.specs.Placing.{AreApart, HaveLimit};
-    ghost use Rattle.subgraph.specs.Split.{entries_in};
+    ghost use Rattle.subgraph.specs.{Codes.split_code, Entries.SplitState, Placing.AreApart, Placing.HaveLimit, Split.entries_in};
 
     ghost Value = { SplitState };
 

@@ -1,8 +1,7 @@
 // How often the terms in the slots are used.
 
 ghost use Rattle.std.specs.Prelude.{◌≡◌, ◌+◌, ◌-◌, ◌<◌, ◌==◌, IsOk, OnOk, OnErr, ◌↔◌};
-ghost use Rattle.term_pool.specs.Pool.{count_of, most_uses};
-ghost use Rattle.term_pool.specs.Counting.{Recounts};
+ghost use Rattle.term_pool.specs.{Pool.count_of, Pool.most_uses, Counting.Recounts};
 ghost use Rattle.slab.specs.Slab.{get};
 
 use crate::slots::Entry;

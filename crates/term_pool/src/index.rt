@@ -1,8 +1,7 @@
 // The way from hashes to slots.
 
 ghost use Rattle.std.specs.Prelude.{◌≡◌, ◌<◌, ◌==◌, not, vec_len, vec_capacity};
-ghost use Rattle.std.specs.List.{filter};
-ghost use Rattle.std.specs.HashMap.{get, spare};
+ghost use Rattle.std.specs.{List.filter, HashMap.get, HashMap.spare};
 ghost use Rattle.term_pool.specs.Index.{Forgets, Points};
 
 use std::collections::HashMap;

@@ -2,8 +2,7 @@
 
 ghost use Rattle.std.specs.Prelude.{◌≡◌, ◌≢◌, ℕ, ◌+◌, ◌<◌, ◌≤◌, ◌==◌, Some, None, Ok, Err, IfSome, IfNone, IfOk, IsOk, OnOk, OnErr, IsSome, IsTrue, ◌↔◌};
 ghost use Rattle.std.specs.List.{All};
-ghost use Rattle.rdf_term.specs.Fit.{IsFitAndShort};
-ghost use Rattle.rdf_term.specs.Text.{term_text};
+ghost use Rattle.rdf_term.specs.{Fit.IsFitAndShort, Text.term_text};
 ghost use Rattle.text_region.specs.Region.{Texts};
 
 use crate::counting::{is_last, lower, raise};
@@ -36,8 +35,7 @@ pub struct Pool {
 
 impl Pool {
     ghost use Rattle.term_pool.specs.Pool.{LiesIn, IsCanonical, IsNowhere, Interned, KeepsBeside, Released, SameSlots, count_at, most_uses, terms, text_in_slot};
-    ghost use Rattle.term_pool.specs.Index.{hash_of};
-    ghost use Rattle.term_pool.specs.Making.{HasSpareSlot, HasSame};
+    ghost use Rattle.term_pool.specs.{Index.hash_of, Making.HasSpareSlot, Making.HasSame};
 
     /// A pool without terms, which takes no memory. Its hashes are keyed by `keys`.
     pub fn new(alloc: Global, keys: RandomState, limit: u32) -> Pool

@@ -1,8 +1,7 @@
 // Bytes, and lines that are made already, are written whole.
 
 ghost use Rattle.std.specs.Prelude.{◌≡◌, flat_map, string_bytes};
-ghost use Rattle.text_output.specs.Printing.{Prints, output};
-ghost use Rattle.text_output.specs.declared.write.Unwritten.TheVariants.{OutOfMemory as Refused};
+ghost use Rattle.text_output.specs.{Printing.Prints, Printing.output, declared.write.Unwritten.TheVariants.OutOfMemory as Refused};
 
 use base::OutOfMemory;
 use wq_io::{NoWrite, Sink};

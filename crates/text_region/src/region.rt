@@ -22,8 +22,7 @@ pub struct Region {
 
 impl Model for Region {
     ghost use Rattle.std.specs.Prelude.{map};
-    ghost use Rattle.text_region.specs.Region.{Texts, texts_code};
-    ghost use Rattle.text_region.specs.Shelves.{AreShelves};
+    ghost use Rattle.text_region.specs.{Region.Texts, Region.texts_code, Shelves.AreShelves};
 
     ghost Value = { Texts };
 

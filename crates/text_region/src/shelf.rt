@@ -20,8 +20,7 @@ pub(crate) struct Shelf {
 
 impl Model for Shelf {
     ghost use Rattle.std.specs.Prelude.{vec_capacity};
-    ghost use Rattle.text_region.specs.Blocks.{Shelf as Blocks, shelf_code, blocks_in};
-    ghost use Rattle.text_region.specs.Shelf.{IsShelf};
+    ghost use Rattle.text_region.specs.{Blocks.Shelf as Blocks, Blocks.shelf_code, Blocks.blocks_in, Shelf.IsShelf};
 
     ghost Value = { Blocks };
 

@@ -1,11 +1,9 @@
 // The answer to a question, and the sections after the end.
 
 ghost use Rattle.std.specs.Prelude.{◌≡◌, cond, []};
-ghost use Rattle.rdf_term.specs.Order.{triple_cmp};
+ghost use Rattle.rdf_term.specs.{Order.triple_cmp, Pattern.rows};
 ghost use Rattle.replay_model.specs.Transcript.{ask_section, export_section, side_section, state_section};
-ghost use Rattle.replay_model.specs.Union.{union};
-ghost use Rattle.replay_model.specs.Versions.{meaning_by};
-ghost use Rattle.rdf_term.specs.Pattern.{rows};
+ghost use Rattle.replay_model.specs.{Union.union, Versions.meaning_by};
 ghost use Rattle.world.specs.Meaning.{meaning};
 ghost use Rattle.text_output.specs.Printing.{Prints, output};
 ghost use Rattle.transcript.specs.Sections.{chosen, closing_of};

@@ -1,8 +1,7 @@
 // The lines of the entities' states.
 
 ghost use Rattle.std.specs.Prelude.{◌≡◌, flat_map};
-ghost use Rattle.replay_model.specs.Records.{record_of};
-ghost use Rattle.replay_model.specs.Transcript.{state_line, state_section};
+ghost use Rattle.replay_model.specs.{Records.record_of, Transcript.state_line, Transcript.state_section};
 ghost use Rattle.text_output.specs.Printing.{Prints, output};
 
 use crate::lines::state_line;

@@ -1,10 +1,8 @@
 // Triples by the words of the vocabulary.
 
 ghost use Rattle.std.specs.Prelude.{[], ◌∷◌, OnOk};
-ghost use Rattle.rdf_vocabulary.specs.Predicate.{about};
-ghost use Rattle.rdf_vocabulary.specs.Resource.{class_triple};
-ghost use Rattle.triple_sink.specs.Gains.{Gains, KeepsFront};
-ghost use Rattle.triple_sink.specs.TermRef.{meant};
+ghost use Rattle.rdf_vocabulary.specs.{Predicate.about, Resource.class_triple};
+ghost use Rattle.triple_sink.specs.{Gains.Gains, Gains.KeepsFront, TermRef.meant};
 
 use crate::sink::TripleSink;
 use crate::term_ref::TermRef;

@@ -1,8 +1,7 @@
 // What takes triples.
 
 ghost use Rattle.std.specs.Prelude.{[], ◌∷◌, ◌++◌, OnOk};
-ghost use Rattle.triple_sink.specs.Gains.{Gains, KeepsFront};
-ghost use Rattle.triple_sink.specs.TermRef.{meant_triple};
+ghost use Rattle.triple_sink.specs.{Gains.Gains, Gains.KeepsFront, TermRef.meant_triple};
 
 use crate::subject::Subject;
 use crate::term_ref::TermRef;
@@ -14,8 +13,7 @@ use std::alloc::Global;
 pub trait TripleSink {
     ghost use Rattle.std.specs.Prelude.{List as Items, IfSome};
     ghost use Rattle.rdf_term.specs.declared.triple.Triple.{Triple};
-    ghost use Rattle.triple_sink.specs.Gains.{Gains, KeepsFront};
-    ghost use Rattle.triple_sink.specs.Subject.{HasSubject, IsKnown};
+    ghost use Rattle.triple_sink.specs.{Gains.Gains, Gains.KeepsFront, Subject.HasSubject, Subject.IsKnown};
     ghost use Rattle.triple_sink.specs.TermRef.{meant, meant_triple};
 
     // The triples that it holds, in the order in which they came.

@@ -2,9 +2,7 @@
 
 ghost use Rattle.std.specs.Prelude.{◌≡◌, [], ◌∷◌, ◌++◌, length, take, IfOk, OnOk, OnErr};
 ghost use Rattle.std.specs.Str.{IsUtf8};
-ghost use Rattle.rdf_term.specs.Append.{Appends};
-ghost use Rattle.rdf_term.specs.Grammar.{tagged_of};
-ghost use Rattle.rdf_term.specs.Text.{in_brackets, quoted, term_text};
+ghost use Rattle.rdf_term.specs.{Append.Appends, Grammar.tagged_of, Text.in_brackets, Text.quoted, Text.term_text};
 ghost use Rattle.entity_model.specs.IdKind.{letter_of};
 ghost use Rattle.rdf_vocabulary.specs.Prefix.{id_term};
 ghost use Rattle.triple_sink.specs.TermRef.{meant};

@@ -1,8 +1,7 @@
 // Keys that are found again.
 
 ghost use Rattle.std.specs.Prelude.{◌≡◌, ◌||◌, ◌↔◌, false, slice_get, None, Some, IsTrue, OnOk};
-ghost use Rattle.slot_index.specs.declared.key.Key.{Key as TheKey};
-ghost use Rattle.slot_index.specs.Keys.{same_key};
+ghost use Rattle.slot_index.specs.{declared.key.Key.Key as TheKey, Keys.same_key};
 ghost use Rattle.triple_store.specs.Added.{AreApart, bucket_of, is_added};
 
 use rdf_term::OutOfMemory;

@@ -2,14 +2,11 @@
 
 ghost use Rattle.std.specs.Prelude.{◌≡◌, ◌<◌, true, Err, IfErr, IfNone, IfOk, IfSome, IsTrue, List, OnErr, OnOk, Some};
 ghost use Rattle.std.specs.FinMap as map;
-ghost use Rattle.rdf_term.specs.declared.term.Term.{Term};
-ghost use Rattle.rdf_term.specs.declared.triple.Triple.{Triple};
+ghost use Rattle.rdf_term.specs.{declared.term.Term.Term, declared.triple.Triple.Triple};
 ghost use Rattle.text_region.specs.declared.piece.Piece.{Piece as ThePiece};
 ghost use Rattle.term_pool.specs.Pool.{IsNowhere, LiesIn, text_in_slot};
 ghost use Rattle.slot_index.specs.declared.key.Key.{Key as TheKey};
-ghost use Rattle.triple_store.specs.Costs.{Costs};
-ghost use Rattle.triple_store.specs.Counts.{count_of, lowered, raised};
-ghost use Rattle.triple_store.specs.Interning.{AreHints};
+ghost use Rattle.triple_store.specs.{Costs.Costs, Counts.count_of, Counts.lowered, Counts.raised, Interning.AreHints};
 ghost use Rattle.triple_store.specs.Room.{distinct, terms_of};
 ghost use Rattle.triple_store.specs.Slots.{HasCanonicalTexts, HasTermsIn, HasTexts, IsAllOf, triple_at, triple_of};
 ghost use Rattle.triple_store.specs.Stored.{HasKey, IsStored, KeepsKeys, beside, counts_in, is_key, limit_of};

@@ -4,16 +4,10 @@ ghost use Rattle.std.specs.Prelude.{◌≡◌, ◌+◌, ◌<◌, ◌≤◌, true
 ghost use Rattle.std.specs.FinMap as map;
 ghost use Rattle.std.specs.List.{AllByRecursion};
 ghost use Rattle.rising.specs.Rising.{IsRising, has};
-ghost use Rattle.rdf_term.specs.declared.triple.Triple.{Triple};
-ghost use Rattle.rdf_term.specs.Fit.{HasFitAndShortTerms};
-ghost use Rattle.rdf_term.specs.Order.{triple_cmp};
+ghost use Rattle.rdf_term.specs.{declared.triple.Triple.Triple, Fit.HasFitAndShortTerms, Order.triple_cmp};
 ghost use Rattle.text_region.specs.declared.piece.Piece.{Piece as ThePiece};
-ghost use Rattle.slot_index.specs.declared.key.Key.{Key as TheKey};
-ghost use Rattle.slot_index.specs.Keys.{key_cmp};
-ghost use Rattle.triple_store.specs.Costs.{Costs};
-ghost use Rattle.triple_store.specs.Counts.{Exchanges, count_of};
-ghost use Rattle.triple_store.specs.Moves.{TakesIn, triples_at};
-ghost use Rattle.triple_store.specs.Room.{room_for};
+ghost use Rattle.slot_index.specs.{declared.key.Key.Key as TheKey, Keys.key_cmp};
+ghost use Rattle.triple_store.specs.{Costs.Costs, Counts.Exchanges, Counts.count_of, Moves.TakesIn, Moves.triples_at, Room.room_for};
 ghost use Rattle.triple_store.specs.Stored.{AreKeysOf, IsStored, KeepsKeys, beside, counts_in, is_key, limit_of};
 ghost use Rattle.triple_store.specs.Telling.{TellsIf, if_told};
 

@@ -3,11 +3,8 @@
 ghost use Rattle.std.specs.Prelude.{◌≡◌, ◌<◌, true, false, length, Some, IfSome, IfErr, IfOk};
 ghost use Rattle.rising.specs.Rising.{IsRising, has};
 ghost use Rattle.term_pool.specs.Pool.{LiesIn, text_in_slot};
-ghost use Rattle.slot_index.specs.declared.key.Key.{Key as TheKey};
-ghost use Rattle.slot_index.specs.Keys.{key_cmp};
-ghost use Rattle.triple_store.specs.Added.{is_held};
-ghost use Rattle.triple_store.specs.Interning.{AreHints, IsOfSubject, IsOfTripleBefore};
-ghost use Rattle.triple_store.specs.Slots.{HasTexts};
+ghost use Rattle.slot_index.specs.{declared.key.Key.Key as TheKey, Keys.key_cmp};
+ghost use Rattle.triple_store.specs.{Added.is_held, Interning.AreHints, Interning.IsOfSubject, Interning.IsOfTripleBefore, Slots.HasTexts};
 ghost use Rattle.triple_store.specs.Stored.{IsStored};
 
 use crate::added::Added;

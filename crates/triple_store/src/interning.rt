@@ -5,8 +5,7 @@ ghost use Rattle.rdf_term.specs.declared.term.Term.{Term};
 ghost use Rattle.text_region.specs.Region.{Texts};
 ghost use Rattle.term_pool.specs.Pool.{LiesIn, KeepsBeside, SameSlots, count_at};
 ghost use Rattle.triple_store.specs.Interning.{AreHints, HasTermsOf, InternsTriple, ReleasesTriple};
-ghost use Rattle.triple_store.specs.Room.{distinct, terms_of};
-ghost use Rattle.triple_store.specs.Slots.{HasCanonicalTexts, IsAllOf, triple_of, uses};
+ghost use Rattle.triple_store.specs.{Room.distinct, Room.terms_of, Slots.HasCanonicalTexts, Slots.IsAllOf, Slots.triple_of, Slots.uses};
 
 use crate::StoreFault;
 use slot_index::Key;

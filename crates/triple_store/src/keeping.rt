@@ -3,10 +3,8 @@
 ghost use Rattle.std.specs.Prelude.{◌≡◌, ◌++◌, ◌≤◌, true, false, length, nat_lt, IfOk};
 ghost use Rattle.std.specs.Prelude.{map as mapped};
 ghost use Rattle.rising.specs.Rising.{IsRising, difference, has, sorted};
-ghost use Rattle.slot_index.specs.declared.key.Key.{Key as TheKey};
-ghost use Rattle.slot_index.specs.Keys.{key_cmp};
-ghost use Rattle.triple_store.specs.Keys.{marked};
-ghost use Rattle.triple_store.specs.Times.{count_beside, counted_keys};
+ghost use Rattle.slot_index.specs.{declared.key.Key.Key as TheKey, Keys.key_cmp};
+ghost use Rattle.triple_store.specs.{Keys.marked, Times.count_beside, Times.counted_keys};
 
 use crate::exchanging::Met;
 use crate::keys::{KeySlices, Keys, NOWHERE, Parted, index_in, places_of, put_in_order, put_last};

@@ -2,8 +2,7 @@
 
 ghost use Rattle.std.specs.Prelude.{◌≡◌, ◌++◌, ◌∷◌, [], Some, length, slice_get, IfOk, IfSome, OnOk};
 ghost use Rattle.rising.specs.Rising.{IsRising, has, sorted};
-ghost use Rattle.slot_index.specs.declared.key.Key.{Key as TheKey};
-ghost use Rattle.slot_index.specs.Keys.{key_cmp};
+ghost use Rattle.slot_index.specs.{declared.key.Key.Key as TheKey, Keys.key_cmp};
 ghost use Rattle.triple_store.specs.Keys.{marked};
 
 use crate::added::{BUCKETS, bucket_of};

@@ -4,10 +4,8 @@ ghost use Rattle.std.specs.Prelude.{◌≡◌, ◌≤◌, ◌++◌, ◌∷◌, i
 ghost use Rattle.std.specs.Prelude.{map as mapped};
 ghost use Rattle.std.specs.declared.cmp.Ordering.TheVariants.{Less};
 ghost use Rattle.rising.specs.Rising.{Above, IsRising, has, sorted};
-ghost use Rattle.slot_index.specs.declared.key.Key.{Key as TheKey};
-ghost use Rattle.slot_index.specs.Keys.{key_cmp};
-ghost use Rattle.triple_store.specs.Keys.{marked};
-ghost use Rattle.triple_store.specs.Times.{count_beside};
+ghost use Rattle.slot_index.specs.{declared.key.Key.Key as TheKey, Keys.key_cmp};
+ghost use Rattle.triple_store.specs.{Keys.marked, Times.count_beside};
 
 use crate::keys::{NOWHERE, narrowed, put_last};
 use rdf_term::OutOfMemory;

@@ -6,10 +6,8 @@ ghost use Rattle.block_index.specs.Steps.{WithinSteps};
 ghost use Rattle.rdf_term.specs.Pattern.{agrees, agrees_at, rows};
 ghost use Rattle.term_pool.specs.Pool.{LiesIn, count_at, text_in_slot};
 ghost use Rattle.slot_index.specs.declared.key.Key.{Key as TheKey};
-ghost use Rattle.triple_store.specs.Counts.{count_of};
-ghost use Rattle.triple_store.specs.Matching.{key_agrees, slot_agrees};
-ghost use Rattle.triple_store.specs.Slots.{HasTriple, term_in, triple_at};
-ghost use Rattle.triple_store.specs.Stored.{IsStored, counts_in, is_key};
+ghost use Rattle.triple_store.specs.{Counts.count_of, Matching.key_agrees, Matching.slot_agrees};
+ghost use Rattle.triple_store.specs.{Slots.HasTriple, Slots.term_in, Slots.triple_at, Stored.IsStored, Stored.counts_in, Stored.is_key};
 
 use crate::catalog::Catalog;
 use block_index::Steps;

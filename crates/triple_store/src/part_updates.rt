@@ -5,8 +5,7 @@ ghost use Rattle.std.specs.FinMap as map;
 ghost use Rattle.rdf_term.specs.declared.triple.Triple.{Triple};
 ghost use Rattle.triple_store.specs.Costs.{Costs};
 ghost use Rattle.triple_store.specs.PartUpdates.{AreTimesIfKnown, AreTimesOf, Becomes, IsPartsExchange, IsTimedExchange};
-ghost use Rattle.triple_store.specs.StoreState.{AreKeysOf, counts_in};
-ghost use Rattle.triple_store.specs.Telling.{if_told};
+ghost use Rattle.triple_store.specs.{StoreState.AreKeysOf, StoreState.counts_in, Telling.if_told};
 ghost use Rattle.triple_store.specs.Updates.{AreStored, KeepsRest, MayCome};
 
 use crate::StoreFault;

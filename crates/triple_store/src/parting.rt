@@ -4,14 +4,10 @@ ghost use Rattle.std.specs.Prelude.{◌≡◌, ◌+◌, ◌<◌, true, List, len
 ghost use Rattle.std.specs.FinMap as map;
 ghost use Rattle.rising.specs.Rising.{IsRising, has};
 ghost use Rattle.rdf_term.specs.declared.triple.Triple.{Triple};
-ghost use Rattle.slot_index.specs.declared.key.Key.{Key as TheKey};
-ghost use Rattle.slot_index.specs.Keys.{key_cmp};
-ghost use Rattle.triple_store.specs.Costs.{Costs};
-ghost use Rattle.triple_store.specs.PartUpdates.{IsPartsExchange, IsTimedExchange, store_of};
-ghost use Rattle.triple_store.specs.Stored.{AreKeysOf, IsStored, counts_in, is_key};
-ghost use Rattle.triple_store.specs.Telling.{if_told};
-ghost use Rattle.triple_store.specs.Times.{AddKeys, AreTimesOf, Becomes};
-ghost use Rattle.triple_store.specs.Updates.{AreStored, KeepsRest, MayCome};
+ghost use Rattle.slot_index.specs.{declared.key.Key.Key as TheKey, Keys.key_cmp};
+ghost use Rattle.triple_store.specs.{Costs.Costs, PartUpdates.IsPartsExchange, PartUpdates.IsTimedExchange, PartUpdates.store_of};
+ghost use Rattle.triple_store.specs.{Stored.AreKeysOf, Stored.IsStored, Stored.counts_in, Stored.is_key, Telling.if_told};
+ghost use Rattle.triple_store.specs.{Times.AddKeys, Times.AreTimesOf, Times.Becomes, Updates.AreStored, Updates.KeepsRest, Updates.MayCome};
 
 use crate::StoreFault;
 use crate::beside::{Beside, Swapped};

@@ -4,14 +4,9 @@ ghost use Rattle.std.specs.Prelude.{◌≡◌, ◌+◌, ◌<◌, ◌≤◌, true
 ghost use Rattle.std.specs.FinMap as map;
 ghost use Rattle.std.specs.List.{AllByRecursion};
 ghost use Rattle.rising.specs.Rising.{IsRising, has};
-ghost use Rattle.rdf_term.specs.declared.triple.Triple.{Triple as TheTriple};
-ghost use Rattle.rdf_term.specs.Fit.{HasFitAndShortTerms};
-ghost use Rattle.rdf_term.specs.Order.{triple_cmp};
+ghost use Rattle.rdf_term.specs.{declared.triple.Triple.Triple as TheTriple, Fit.HasFitAndShortTerms, Order.triple_cmp};
 ghost use Rattle.text_region.specs.declared.piece.Piece.{Piece as ThePiece};
-ghost use Rattle.triple_store.specs.Costs.{Costs};
-ghost use Rattle.triple_store.specs.Counts.{Exchanges, count_of};
-ghost use Rattle.triple_store.specs.Moves.{Loses};
-ghost use Rattle.triple_store.specs.Room.{room_for};
+ghost use Rattle.triple_store.specs.{Costs.Costs, Counts.Exchanges, Counts.count_of, Moves.Loses, Room.room_for};
 ghost use Rattle.triple_store.specs.Stored.{IsStored, KeepsKeys, beside, counts_in, limit_of};
 
 use crate::StoreFault;

@@ -5,12 +5,8 @@ ghost use Rattle.std.specs.Prelude.{◌≡◌, ◌+◌, ◌*◌, ◌^◌, ◌<�
 ghost use Rattle.std.specs.FinMap as map;
 ghost use Rattle.rising.specs.Rising.{sorted};
 ghost use Rattle.block_index.specs.Steps.{WithinSteps};
-ghost use Rattle.rdf_term.specs.declared.triple.Triple.{Triple as TheTriple};
-ghost use Rattle.rdf_term.specs.Order.{triple_cmp};
-ghost use Rattle.rdf_term.specs.Pattern.{rows};
-ghost use Rattle.triple_store.specs.Counts.{count_of};
-ghost use Rattle.triple_store.specs.StoreState.{AreKeysOf, counts_in};
-ghost use Rattle.triple_store.specs.Updates.{AreStored};
+ghost use Rattle.rdf_term.specs.{declared.triple.Triple.Triple as TheTriple, Order.triple_cmp, Pattern.rows};
+ghost use Rattle.triple_store.specs.{Counts.count_of, StoreState.AreKeysOf, StoreState.counts_in, Updates.AreStored};
 
 use crate::keys::KeySlices;
 use crate::rows::Rows;

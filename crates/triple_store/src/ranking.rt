@@ -1,13 +1,11 @@
 // All stored triples in their order, by the ranks of their terms.
 
 ghost use Rattle.std.specs.Prelude.{◌≡◌, ◌<◌, length, map as mapped, slice_get, IfOk, IfSome, Some};
-ghost use Rattle.std.specs.List.{All};
-ghost use Rattle.std.specs.List.Sorted.{IsPermutation, IsSorted};
+ghost use Rattle.std.specs.{List.All, List.Sorted.IsPermutation, List.Sorted.IsSorted};
 ghost use Rattle.rdf_term.specs.Order.{triple_cmp};
 ghost use Rattle.term_pool.specs.Pool.{text_in_slot};
 ghost use Rattle.triple_store.specs.Ranks.{AreRankedRows, AreTextsOf, IsRanked, IsRankOf, rank_key, rank_of, ranked_triples, text_order};
-ghost use Rattle.triple_store.specs.Slots.{HasCanonicalTexts, triple_at, triple_of};
-ghost use Rattle.triple_store.specs.Stored.{IsStored};
+ghost use Rattle.triple_store.specs.{Slots.HasCanonicalTexts, Slots.triple_at, Slots.triple_of, Stored.IsStored};
 
 use crate::catalog::Catalog;
 use crate::keys::{NOWHERE, narrowed};

@@ -6,11 +6,8 @@ ghost use Rattle.std.specs.List.Sorted.{IsSearchInRange};
 ghost use Rattle.rising.specs.Rising.{IsRising, difference, has};
 ghost use Rattle.rdf_term.specs.declared.triple.Triple.{Triple};
 ghost use Rattle.text_region.specs.declared.piece.Piece.{Piece as ThePiece};
-ghost use Rattle.slot_index.specs.declared.key.Key.{Key as TheKey};
-ghost use Rattle.slot_index.specs.Keys.{key_cmp};
-ghost use Rattle.triple_store.specs.Costs.{Costs};
-ghost use Rattle.triple_store.specs.Counts.{Exchanges};
-ghost use Rattle.triple_store.specs.Moves.{Removes};
+ghost use Rattle.slot_index.specs.{declared.key.Key.Key as TheKey, Keys.key_cmp};
+ghost use Rattle.triple_store.specs.{Costs.Costs, Counts.Exchanges, Moves.Removes};
 ghost use Rattle.triple_store.specs.Stored.{AreKeysOf, IsStored, KeepsKeys, beside, counts_in, is_key, limit_of};
 ghost use Rattle.triple_store.specs.Telling.{TellsIf, if_told};
 

@@ -2,8 +2,7 @@
 
 ghost use Rattle.std.specs.Prelude.{◌≡◌, []};
 ghost use Rattle.text_region.specs.Region.{Texts};
-ghost use Rattle.triple_store.specs.Room.{room_for};
-ghost use Rattle.triple_store.specs.Stored.{IsStored, counts_in};
+ghost use Rattle.triple_store.specs.{Room.room_for, Stored.IsStored, Stored.counts_in};
 
 use crate::catalog::Catalog;
 

@@ -2,22 +2,14 @@
 
 ghost use Rattle.std.specs.Prelude.{◌≡◌, ◌+◌, ◌<◌, ◌≤◌, ◌++◌, ◌∷◌, [], true, length, slice_get, map as mapped, IfOk, IfSome, OnOk, OnErr};
 ghost use Rattle.std.specs.FinMap as map;
-ghost use Rattle.std.specs.List.{All};
-ghost use Rattle.std.specs.List.Sorted.{IsPermutation, IsSorted};
-ghost use Rattle.std.specs.Ordering.{ordering_then};
+ghost use Rattle.std.specs.{List.All, List.Sorted.IsPermutation, List.Sorted.IsSorted, Ordering.ordering_then};
 ghost use Rattle.rising.specs.Rising.{IsRising, has, sorted};
 ghost use Rattle.block_index.specs.Steps.{WithinSteps};
-ghost use Rattle.rdf_term.specs.Append.{Appends};
-ghost use Rattle.rdf_term.specs.Order.{bytes_cmp, triple_cmp};
-ghost use Rattle.rdf_term.specs.Pattern.{rows};
-ghost use Rattle.rdf_term.specs.Text.{triple_text};
-ghost use Rattle.slot_index.specs.declared.key.Key.{Key as TheKey};
-ghost use Rattle.slot_index.specs.Keys.{key_cmp};
-ghost use Rattle.triple_store.specs.Moves.{triples_at};
-ghost use Rattle.triple_store.specs.Rows.{line_of, text_cmp};
+ghost use Rattle.rdf_term.specs.{Append.Appends, Order.bytes_cmp, Order.triple_cmp, Pattern.rows, Text.triple_text};
+ghost use Rattle.slot_index.specs.{declared.key.Key.Key as TheKey, Keys.key_cmp};
+ghost use Rattle.triple_store.specs.{Moves.triples_at, Rows.line_of, Rows.text_cmp};
 ghost use Rattle.triple_store.specs.Slots.{HasCanonicalTexts, HasTexts, triple_at, triple_of};
-ghost use Rattle.triple_store.specs.Stored.{IsStored, counts_in, is_key};
-ghost use Rattle.triple_store.specs.Telling.{AreLinesOf};
+ghost use Rattle.triple_store.specs.{Stored.IsStored, Stored.counts_in, Stored.is_key, Telling.AreLinesOf};
 
 use crate::catalog::Catalog;
 use crate::ranking::Ranked;

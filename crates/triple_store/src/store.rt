@@ -3,9 +3,7 @@
 ghost use Rattle.std.specs.Prelude.{◌≡◌, ◌≤◌, ℕ, [], length, Some, None, IfOk, IsSome, OnErr};
 ghost use Rattle.std.specs.FinMap as map;
 ghost use Rattle.rdf_term.specs.declared.triple.Triple.{Triple};
-ghost use Rattle.text_region.specs.declared.piece.Piece.{Piece as ThePiece};
-ghost use Rattle.text_region.specs.Class.{IsClassOf};
-ghost use Rattle.text_region.specs.Region.{live, made};
+ghost use Rattle.text_region.specs.{declared.piece.Piece.Piece as ThePiece, Class.IsClassOf, Region.live, Region.made};
 ghost use Rattle.slot_index.specs.declared.key.Key.{Key};
 ghost use Rattle.triple_store.specs.Room.{room_for};
 ghost use Rattle.triple_store.specs.StoreState.{AreLaid, HasKey, IsSound, beside, counts_in, limit_of};
@@ -28,8 +26,7 @@ pub struct Store {
 }
 
 impl Model for Store {
-    ghost use Rattle.triple_store.specs.StoreState.{StoreState, store_code};
-    ghost use Rattle.triple_store.specs.Stored.{IsStored};
+    ghost use Rattle.triple_store.specs.{StoreState.StoreState, StoreState.store_code, Stored.IsStored};
 
     ghost Value = { StoreState };
 

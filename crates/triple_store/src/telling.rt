@@ -4,11 +4,8 @@ ghost use Rattle.std.specs.Prelude.{◌≡◌, ◌+◌, true, length, IfOk, IsOk
 ghost use Rattle.std.specs.FinMap as map;
 ghost use Rattle.rising.specs.Rising.{IsRising, has, sorted};
 ghost use Rattle.rdf_term.specs.Order.{triple_cmp};
-ghost use Rattle.slot_index.specs.declared.key.Key.{Key as TheKey};
-ghost use Rattle.slot_index.specs.Keys.{key_cmp};
-ghost use Rattle.triple_store.specs.Costs.{Costs};
-ghost use Rattle.triple_store.specs.Moves.{triples_at};
-ghost use Rattle.triple_store.specs.Stored.{IsStored, is_key};
+ghost use Rattle.slot_index.specs.{declared.key.Key.Key as TheKey, Keys.key_cmp};
+ghost use Rattle.triple_store.specs.{Costs.Costs, Moves.triples_at, Stored.IsStored, Stored.is_key};
 ghost use Rattle.triple_store.specs.Telling.{AreLinesOf, LinesIf, if_told, sole};
 
 use crate::catalog::Catalog;

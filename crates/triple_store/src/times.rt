@@ -2,11 +2,8 @@
 
 ghost use Rattle.std.specs.Prelude.{◌≡◌, ◌<◌, true, false, length, get_or, replicate, slice_get, Some, IfNone, IfSome, IfOk};
 ghost use Rattle.rising.specs.Rising.{IsRising, has};
-ghost use Rattle.slot_index.specs.declared.key.Key.{Key as TheKey};
-ghost use Rattle.slot_index.specs.Keys.{key_cmp};
-ghost use Rattle.triple_store.specs.Slots.{HasTexts};
-ghost use Rattle.triple_store.specs.Stored.{IsStored, is_key};
-ghost use Rattle.triple_store.specs.Times.{AddKeys, AddTimes};
+ghost use Rattle.slot_index.specs.{declared.key.Key.Key as TheKey, Keys.key_cmp};
+ghost use Rattle.triple_store.specs.{Slots.HasTexts, Stored.IsStored, Stored.is_key, Times.AddKeys, Times.AddTimes};
 
 use crate::catalog::Catalog;
 use crate::keys::KeySlices;

@@ -2,9 +2,7 @@
 
 ghost use Rattle.std.specs.Prelude.{◌≡◌, ◌+◌, ◌<◌, length};
 ghost use Rattle.std.specs.FinMap as map;
-ghost use Rattle.triple_store.specs.Costs.{Costs};
-ghost use Rattle.triple_store.specs.StoreState.{counts_in};
-ghost use Rattle.triple_store.specs.Telling.{if_told};
+ghost use Rattle.triple_store.specs.{Costs.Costs, StoreState.counts_in, Telling.if_told};
 ghost use Rattle.triple_store.specs.Updates.{AreStored, IsExchange, IsPatched, IsRelease, IsToldExchange, IsToldRelease, KeepsRest, MayCome, MayGo};
 
 use crate::StoreFault;

@@ -3,8 +3,7 @@
 ghost use Rattle.std.specs.Prelude.{◌≡◌, ℕ, List, [], length, take, IfOk, IfSome, IsTrue};
 ghost use Rattle.std.specs.List.{All};
 ghost use Rattle.triple_sink.specs.TermRef.{meant};
-ghost use Rattle.triple_texts.specs.Spans.{IsSpanOf};
-ghost use Rattle.triple_texts.specs.Words.{IsPlaced, word_term};
+ghost use Rattle.triple_texts.specs.{Spans.IsSpanOf, Words.IsPlaced, Words.word_term};
 
 use crate::long_text::is_text;
 use crate::span::Span;

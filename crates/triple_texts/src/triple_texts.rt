@@ -2,8 +2,7 @@
 
 ghost use Rattle.std.specs.Prelude.{◌≡◌, ◌<◌, ◌≤◌, [], length, take, slice_get, IfSome, IfOk, IsTrue};
 ghost use Rattle.triple_sink.specs.TermRef.{meant, meant_triple};
-ghost use Rattle.triple_texts.specs.Spans.{AreSpansOf, IsSpanOf};
-ghost use Rattle.triple_texts.specs.Texts.{IsTextOf, RepeatsSubject};
+ghost use Rattle.triple_texts.specs.{Spans.AreSpansOf, Spans.IsSpanOf, Texts.IsTextOf, Texts.RepeatsSubject};
 
 use crate::buffer::{Buffer, lies_there};
 use crate::long_text::{iri_len, long_size, remember};

@@ -3,15 +3,10 @@
 ghost use Rattle.std.specs.Prelude.{◌≡◌, ℕ, List, IfSome};
 ghost use Rattle.std.specs.List.{AllByRecursion};
 ghost use Rattle.rdf_term.specs.Fit.{HasFitAndShortTerms, IsFitAndShort};
-ghost use Rattle.entity_model.specs.declared.value.QuantityParts.{QuantityParts};
-ghost use Rattle.entity_model.specs.declared.value.Value.{Value};
-ghost use Rattle.entity_model.specs.declared.value.Value.TheVariants.{Quantity};
-ghost use Rattle.entity_model.specs.Value.{IsSmallValue};
-ghost use Rattle.entity_model.specs.declared.mapping.MappingVersion.{MappingVersion};
-ghost use Rattle.entity_model.specs.declared.mapping.MappingVersion.TheVariants.{Two};
-ghost use Rattle.value_nodes.specs.Name.{node_name, number_one_iri, one, with_unit};
-ghost use Rattle.value_nodes.specs.Nodes.{node_triples};
-ghost use Rattle.value_nodes.specs.Terms.{simple_term};
+ghost use Rattle.entity_model.specs.{declared.value.QuantityParts.QuantityParts, declared.value.Value.Value};
+ghost use Rattle.entity_model.specs.{declared.value.Value.TheVariants.Quantity, Value.IsSmallValue};
+ghost use Rattle.entity_model.specs.{declared.mapping.MappingVersion.MappingVersion, declared.mapping.MappingVersion.TheVariants.Two};
+ghost use Rattle.value_nodes.specs.{Name.node_name, Name.number_one_iri, Name.one, Name.with_unit, Nodes.node_triples, Terms.simple_term};
 
 /// The simple term of a small value is fit and short.
 #[tactic(auto, using(crate::proofs::Fit::simple_term_fit))]

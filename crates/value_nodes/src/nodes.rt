@@ -2,10 +2,8 @@
 
 ghost use Rattle.std.specs.Prelude.{[], ◌∷◌, OnOk};
 ghost use Rattle.std.specs.Option.{option_copied};
-ghost use Rattle.rdf_vocabulary.specs.Datatype.{typed};
-ghost use Rattle.rdf_vocabulary.specs.Predicate.{about};
-ghost use Rattle.triple_sink.specs.Gains.{Gains, KeepsFront};
-ghost use Rattle.triple_sink.specs.TermRef.{meant};
+ghost use Rattle.rdf_vocabulary.specs.{Datatype.typed, Predicate.about};
+ghost use Rattle.triple_sink.specs.{Gains.Gains, Gains.KeepsFront, TermRef.meant};
 ghost use Rattle.value_nodes.specs.Nodes.{bound_triples, globe_triples, value_part_triples, precision_triples, quantity_triples, time_triples, unit_term};
 
 use crate::simple::{emit_amount, emit_iri, emit_time};

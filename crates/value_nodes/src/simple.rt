@@ -4,9 +4,7 @@ ghost use Rattle.std.specs.Prelude.{◌≡◌, [], ◌∷◌, IfOk, IfSome, OnOk
 ghost use Rattle.std.specs.Str.{bytes_eq};
 ghost use Rattle.rdf_term.specs.Grammar.{iri_of};
 ghost use Rattle.rdf_vocabulary.specs.Prefix.{prefixed};
-ghost use Rattle.triple_sink.specs.Gains.{Gains, KeepsFront};
-ghost use Rattle.triple_sink.specs.Subject.{IsKnown};
-ghost use Rattle.triple_sink.specs.TermRef.{meant};
+ghost use Rattle.triple_sink.specs.{Gains.Gains, Gains.KeepsFront, Subject.IsKnown, TermRef.meant};
 ghost use Rattle.wb_values.specs.Literal.{time_literal};
 ghost use Rattle.value_nodes.specs.Said.{object_triples, triple};
 ghost use Rattle.value_nodes.specs.Terms.{amount_term, globe_term, julian_calendar, simple_term, text_term, time_term, time_text_term};

@@ -2,11 +2,8 @@
 
 ghost use Rattle.std.specs.Prelude.{◌≡◌, ◌<◌, true, [], ◌∷◌, IfSome};
 ghost use Rattle.rising.specs.Rising.{has};
-ghost use Rattle.rdf_term.specs.declared.triple.Triple.{Triple as TheTriple};
-ghost use Rattle.rdf_term.specs.Fit.{HasFitAndShortTerms};
-ghost use Rattle.rdf_term.specs.Order.{triple_cmp};
-ghost use Rattle.triple_store.specs.Counts.{count_of};
-ghost use Rattle.triple_store.specs.StoreState.{counts_in};
+ghost use Rattle.rdf_term.specs.{declared.triple.Triple.Triple as TheTriple, Fit.HasFitAndShortTerms, Order.triple_cmp};
+ghost use Rattle.triple_store.specs.{Counts.count_of, StoreState.counts_in};
 
 use crate::pools::term_of;
 use rdf_term::{List, Triple, TripleSet};

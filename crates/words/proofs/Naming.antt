@@ -38,8 +38,8 @@ kind_plain (e ∷ table) name kind plain is =
 not_plain : (name value : List ℕ) → is_plain name ≡ true → is_plain (name ++ 61 ∷ value) ≡ false
 not_plain name value plain = list_all-append (λ b. not (is_equals_sign b)) name (61 ∷ value) ∙ ap (λ b. b && false) plain
 
-pub joined_untold : (table : List Entry) (name value : List ℕ) → are_plain table ≡ true → is_plain name ≡ true → kind_in table (name ++ 61 ∷ value) ≡ None
-joined_untold table name value plain alone = by (kind_in table (name ++ 61 ∷ value)) refl
+pub joined_unknown : (table : List Entry) (name value : List ℕ) → are_plain table ≡ true → is_plain name ≡ true → kind_in table (name ++ 61 ∷ value) ≡ None
+joined_unknown table name value plain alone = by (kind_in table (name ++ 61 ∷ value)) refl
   where
     by : (found : Option ValueKind) → kind_in table (name ++ 61 ∷ value) ≡ found → found ≡ None
     by None is = refl

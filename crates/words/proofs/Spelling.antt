@@ -14,7 +14,7 @@ use Rattle.words.specs.Grammar.{AreDistinct, IsPlan, Spell, Written, items_in, w
 use Rattle.words.specs.declared.plan.Plan.{Plan}
 use Rattle.words.specs.declared.table.Command.{Command}
 use Rattle.words.specs.declared.table.Command.TheVariants.{Replay as ToReplay, Drill as ToDrill, Patches as ToPatches, Follow as ToFollow, Split as ToSplit}
-use Rattle.words.proofs.Naming.{are_plain, is_plain, item_alone, item_joined, items_apart, items_whole, joined_untold, kind_plain, same_name}
+use Rattle.words.proofs.Naming.{are_plain, is_plain, item_alone, item_joined, items_apart, items_whole, joined_unknown, kind_plain, same_name}
 
 abbrev IsFit : List Entry → Item → Type 0
 IsFit table i = fits (kind_in table i.name) i.value ≡ true
@@ -33,7 +33,7 @@ module _ (table : List Entry) (plain : are_plain table ≡ true) where
       → is_read table name (Some value) joined others
   value_read name value false others alone takes = items_apart table name value others takes
   value_read name value true others alone takes =
-      items_whole table (name ++ 61 ∷ value) others (ap has_value (joined_untold table name value plain alone))
+      items_whole table (name ++ 61 ∷ value) others (ap has_value (joined_unknown table name value plain alone))
       ∙ ap (λ i. i ∷ items_of table others) (item_joined name value alone)
 
   one_read : (name : List ℕ) (value : Option (List ℕ)) (joined : Bool) (others : List (List ℕ)) → fits (kind_in table name) value ≡ true → is_read table name value joined others

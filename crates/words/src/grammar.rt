@@ -1,9 +1,7 @@
 // The law of the grammar: the contract of a function that does nothing.
 
 ghost use Rattle.std.specs.Prelude.{◌≡◌, ◌↔◌, ℕ, List, Some};
-ghost use Rattle.words.specs.Grammar.{IsPlan};
-ghost use Rattle.words.specs.Plan.{plan_of};
-ghost use Rattle.words.specs.declared.plan.Plan.{Plan};
+ghost use Rattle.words.specs.{Grammar.IsPlan, Plan.plan_of, declared.plan.Plan.Plan};
 
 /// Words are a plan exactly where they are the name of a command and items of its table in any order, each at most once and each with
 /// a value that fits; and the plan is what these items ask for.

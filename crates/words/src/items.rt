@@ -34,8 +34,7 @@ pub struct Request<'a> {
 
 impl<'a> Model for Request<'a> {
     ghost use Rattle.std.specs.Prelude.{map, string_bytes};
-    ghost use Rattle.words.specs.Items.{Request, items_of};
-    ghost use Rattle.words.specs.Table.{table_of};
+    ghost use Rattle.words.specs.{Items.Request, Items.items_of, Table.table_of};
 
     ghost Value = { Request };
 

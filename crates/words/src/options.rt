@@ -1,8 +1,7 @@
 // What a replay, a patch stream, a follower and a split are asked for.
 
 ghost use Rattle.std.specs.Prelude.{◌≡◌, ◌⊎◌, ◌≤◌, ◌^◌, codes, option_map};
-ghost use Rattle.words.specs.Items.{number_in};
-ghost use Rattle.words.specs.Table.{split_table, table_of};
+ghost use Rattle.words.specs.{Items.number_in, Table.split_table, Table.table_of};
 ghost use Rattle.words.specs.Options.{IsAllowed, IsBounded, IsItemInRange, choices_of, follow_choices_of, follow_max_bytes_of, max_bytes_of, closes, folder_of, max_terms_of, split_choices_of};
 ghost use Rattle.words.specs.declared.table.Command.TheVariants.{Replay, Patches, Follow, Split};
 

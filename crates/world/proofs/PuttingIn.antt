@@ -27,7 +27,7 @@ use Rattle.triple_store.specs.StoreState.{StoreState, beside}
 use Rattle.world.specs.declared.kept.Kept.{Kept}
 use Rattle.world.specs.Keeping.{KeptRecords, record_with, seen}
 use Rattle.world.proofs.Values.{values_keys}
-use Rattle.world.specs.Restoring.{MayStand, by_two_with, is_told}
+use Rattle.world.specs.Restoring.{MayStand, by_two_with, is_accounted_for}
 
 -- ---- a map with one more
 
@@ -96,8 +96,8 @@ wanted_told true false told rest is w = is
 wanted_told false held told rest is w = clash w refl
 
 -- a record that may stand
-pub told_stands : (side : List Entry) (x : EntityId) (r : Record Bytes) → is_told side x r ≡ true → HoldsDocument unfit_of x r.held → MayStand side x r
-told_stands side x r told document =
+pub accounted_stands : (side : List Entry) (x : EntityId) (r : Record Bytes) → is_accounted_for side x r ≡ true → HoldsDocument unfit_of x r.held → MayStand side x r
+accounted_stands side x r told document =
     let empty : is_kept r.state.mode ≡ false → r.held ≡ None =
     nothing_held (is_kept r.state.mode) (is_held r.state.rev (held_revision r.held) || list_any (is_of_revision x r.state.rev) side) r.held told in
     record {
@@ -109,15 +109,15 @@ told_stands side x r told document =
       document = document;
     }
 
-untold : (kept held told : Bool) (h : Option (Held Bytes)) → cond kept (held || told) (is_none h) ≡ false → (kept ≡ false → h ≡ None) → ((kept && not held) ≡ true → told ≡ true) → ⊥
-untold true true told h is empty named = true≢false is
-untold true false told h is empty named = clash (named refl) is
-untold false held told h is empty named = clash (ap is_none (empty refl)) is
+not_accounted : (kept held told : Bool) (h : Option (Held Bytes)) → cond kept (held || told) (is_none h) ≡ false → (kept ≡ false → h ≡ None) → ((kept && not held) ≡ true → told ≡ true) → ⊥
+not_accounted true true told h is empty named = true≢false is
+not_accounted true false told h is empty named = clash (named refl) is
+not_accounted false held told h is empty named = clash (ap is_none (empty refl)) is
 
 -- and one that may not
-pub untold_refused : (side : List Entry) (x : EntityId) (r : Record Bytes) → is_told side x r ≡ false → MayStand side x r → ⊥
-untold_refused side x r is stands =
-    untold (is_kept r.state.mode) (is_held r.state.rev (held_revision r.held)) (list_any (is_of_revision x r.state.rev) side) r.held is stands.empty
+pub unaccounted_refused : (side : List Entry) (x : EntityId) (r : Record Bytes) → is_accounted_for side x r ≡ false → MayStand side x r → ⊥
+unaccounted_refused side x r is stands =
+    not_accounted (is_kept r.state.mode) (is_held r.state.rev (held_revision r.held)) (list_any (is_of_revision x r.state.rev) side) r.held is stands.empty
     (told_by side x r stands.settled stands.empty).named
 
 -- ---- the world with the record

@@ -18,8 +18,8 @@ use Rattle.replay_model.specs.Versions.{with_version}
 use Rattle.world.specs.WorldState.{WorldState}
 
 -- whether nothing is held of a page that isn't kept, and the side output tells of the revision that is wanted, unless it is held
-abbrev pub is_told : List Entry → EntityId → Record Bytes → Bool
-is_told side x r =
+abbrev pub is_accounted_for : List Entry → EntityId → Record Bytes → Bool
+is_accounted_for side x r =
     cond (is_kept r.state.mode) (is_held r.state.rev (held_revision r.held) || list_any (is_of_revision x r.state.rev) side) (is_none r.held)
 
 -- a world with this side output may have this record of x: x holds what its state wants exactly where no revision entry of it is open,

@@ -3,13 +3,8 @@
 ghost use Rattle.std.specs.Prelude.{◌≡◌, ◌<◌, ◌≤◌, Err, IfOk, OnErr, OnOk, is_some};
 ghost use Rattle.term_pool.specs.declared.fault.PoolFault.TheVariants.{Full};
 ghost use Rattle.entity_state.specs.Standing.{standing_after, standing_of, standing_wants};
-ghost use Rattle.replay_model.specs.Play.{apply as played};
-ghost use Rattle.replay_model.specs.Records.{record_of};
-ghost use Rattle.replay_model.specs.Versions.{meaning_by};
-ghost use Rattle.world.specs.Applying.{outcome_after};
-ghost use Rattle.world.specs.Changing.{Tells};
-ghost use Rattle.world.specs.Fetched.{AreMeant, reply_or_any};
-ghost use Rattle.world.specs.Meaning.{meaning};
+ghost use Rattle.replay_model.specs.{Play.apply as played, Records.record_of, Versions.meaning_by};
+ghost use Rattle.world.specs.{Applying.outcome_after, Changing.Tells, Fetched.AreMeant, Fetched.reply_or_any, Meaning.meaning};
 ghost use Rattle.world.specs.Roomed.{HasRoom, Overfills, room_with, triples_of_reply};
 ghost use Rattle.world.specs.Routed.{routed_by, routed_page};
 ghost use Rattle.world.specs.WorldState.{AreHolders, played_of, by_two_after, stored_in};

@@ -1,8 +1,7 @@
 // What a fetched page changes of the one that its entity holds.
 
 ghost use Rattle.std.specs.Prelude.{◌≡◌, Some, IfOk, IfSome};
-ghost use Rattle.entity_model.specs.declared.entity.Entity.{Entity as TheEntity};
-ghost use Rattle.entity_model.specs.declared.document.Document.TheVariants.{Entity as AnEntity};
+ghost use Rattle.entity_model.specs.{declared.entity.Entity.Entity as TheEntity, declared.document.Document.TheVariants.Entity as AnEntity};
 ghost use Rattle.entity_json.specs.Document.{document_of};
 ghost use Rattle.entity_rdf.specs.Counted.{counted_kept, counts_of};
 ghost use Rattle.world.specs.Compared.{AreChanged, AreTextsOfParts};

@@ -3,21 +3,17 @@
 ghost use Rattle.std.specs.Prelude.{◌≡◌, ◌≤◌, List, None, Some, IfErr, IfOk, IfSome, length, option_copied, option_map};
 ghost use Rattle.std.specs.List.{AllByRecursion};
 ghost use Rattle.rising.specs.Rising.{sorted};
-ghost use Rattle.rdf_term.specs.Fit.{HasFitAndShortTerms};
-ghost use Rattle.rdf_term.specs.Order.{triple_cmp};
-ghost use Rattle.entity_model.specs.Document.{IsDocumentOf, IsSmall};
+ghost use Rattle.rdf_term.specs.{Fit.HasFitAndShortTerms, Order.triple_cmp};
+ghost use Rattle.entity_model.specs.{Document.IsDocumentOf, Document.IsSmall, declared.id.EntityId.EntityId as TheId};
 ghost use Rattle.entity_json.specs.Document.{document_of, unfit_of};
 ghost use Rattle.revisions.specs.Revisions.{counted};
 ghost use Rattle.replay_model.specs.Records.{Records};
-ghost use Rattle.entity_model.specs.declared.id.EntityId.{EntityId as TheId};
 ghost use Rattle.world.specs.Applying.{IsJudged, IsReply, IsShown, outcome_of_reply};
 ghost use Rattle.world.specs.Compared.{HasEntity, IsChangeOfHeld, IsKnownPage};
 ghost use Rattle.world.specs.Fetched.{IsMeant, IsPageOf, IsWhy, bytes_of, reply_of, reply_of_whole};
-ghost use Rattle.world.specs.Listed.{IsListed, counts_if};
-ghost use Rattle.graph_routes.specs.declared.routes.Route.{Route};
-ghost use Rattle.graph_routes.specs.Routing.{route_of};
-ghost use Rattle.world.specs.Meaning.{document_triples, meaning};
+ghost use Rattle.world.specs.{Listed.IsListed, Listed.counts_if, Meaning.document_triples, Meaning.meaning};
 ghost use Rattle.world.specs.Routed.{IsReplyRouted, route_by};
+ghost use Rattle.graph_routes.specs.{declared.routes.Route.Route, Routing.route_of};
 
 use crate::comparing::{ChangedPage, ChangedTexts, KnownPage, changed_texts};
 use crate::meaning::document_texts;

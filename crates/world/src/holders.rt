@@ -3,8 +3,7 @@
 ghost use Rattle.std.specs.Prelude.{◌≡◌, [], not, length, if◌then◌else◌, IfOk, OnErr, OnOk};
 ghost use Rattle.rising.specs.Rising.{has};
 ghost use Rattle.entity_model.specs.EntityId.{entity_cmp};
-ghost use Rattle.world.specs.Holders.{held_by, other_version, with_holder, without_holder};
-ghost use Rattle.world.specs.WorldState.{first_of};
+ghost use Rattle.world.specs.{Holders.held_by, Holders.other_version, Holders.with_holder, Holders.without_holder, WorldState.first_of};
 
 use entity_model::{EntityId, MappingVersion};
 use rdf_term::OutOfMemory;
@@ -20,8 +19,7 @@ pub struct Holders {
 }
 
 impl Model for Holders {
-    ghost use Rattle.world.specs.Codes.{holders_code};
-    ghost use Rattle.world.specs.Holders.{ByVersion};
+    ghost use Rattle.world.specs.{Codes.holders_code, Holders.ByVersion};
 
     ghost Value = { ByVersion };
 

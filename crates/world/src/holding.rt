@@ -8,14 +8,9 @@ ghost use Rattle.entity_state.specs.Table.{has_room};
 ghost use Rattle.slot_index.specs.declared.key.Key.{Key as TheKey};
 ghost use Rattle.triple_store.specs.StoreState.{HasKey, IsSound, beside, counts_in, limit_of};
 ghost use Rattle.entity_model.specs.declared.mapping.MappingVersion.TheVariants.{One};
-ghost use Rattle.replay_model.specs.Records.{record_of};
-ghost use Rattle.replay_model.specs.Versions.{meaning_by, with_version};
-ghost use Rattle.world.specs.Changing.{Tells};
-ghost use Rattle.world.specs.Fetched.{IsFetched, bytes_of};
-ghost use Rattle.world.specs.Keeping.{FreesPiece, kept_of, piece_at};
-ghost use Rattle.world.specs.Meaning.{meaning};
-ghost use Rattle.world.specs.Roomed.{HasRoom, room_with};
-ghost use Rattle.world.specs.Standing.{unfetched_outcome, unless_deleted};
+ghost use Rattle.replay_model.specs.{Records.record_of, Versions.meaning_by, Versions.with_version};
+ghost use Rattle.world.specs.{Changing.Tells, Fetched.IsFetched, Fetched.bytes_of, Keeping.FreesPiece, Keeping.kept_of, Keeping.piece_at};
+ghost use Rattle.world.specs.{Meaning.meaning, Roomed.HasRoom, Roomed.room_with, Standing.unfetched_outcome, Standing.unless_deleted};
 ghost use Rattle.world.specs.WorldState.{AreHolders, by_two_after, stored_in};
 
 use crate::applied::{Effect, Handling, Outcome};

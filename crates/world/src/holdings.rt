@@ -2,17 +2,11 @@
 
 ghost use Rattle.std.specs.Prelude.{◌≡◌, ◌≤◌, [], Some, IfOk, IfSome, IsSome, IsTrue, MatchOption, OnOk};
 ghost use Rattle.std.specs.FinMap as map;
-ghost use Rattle.entity_state.specs.Standing.{standing_of};
-ghost use Rattle.entity_state.specs.Table.{has_room};
-ghost use Rattle.replay_model.specs.Records.{record_of};
-ghost use Rattle.replay_model.specs.Versions.{meaning_by};
-ghost use Rattle.world.specs.Compared.{HasEntity, IsKnownPage};
-ghost use Rattle.world.specs.Keeping.{held_with, kept_of, piece_at};
-ghost use Rattle.world.specs.Laid.{IsLaid};
-ghost use Rattle.world.specs.Meaning.{meaning};
+ghost use Rattle.entity_state.specs.{Standing.standing_of, Table.has_room};
+ghost use Rattle.replay_model.specs.{Records.record_of, Versions.meaning_by};
+ghost use Rattle.world.specs.{Compared.HasEntity, Compared.IsKnownPage, Keeping.held_with, Keeping.kept_of, Keeping.piece_at, Laid.IsLaid};
+ghost use Rattle.world.specs.{Meaning.meaning, Roomed.HasRoom, Roomed.room_with, Timed.counts_held};
 ghost use Rattle.triple_store.specs.StoreState.{beside};
-ghost use Rattle.world.specs.Roomed.{HasRoom, room_with};
-ghost use Rattle.world.specs.Timed.{counts_held};
 
 use crate::comparing::KnownPage;
 use crate::holders::Holders;
@@ -40,10 +34,7 @@ pub struct Holdings {
 
 impl Model for Holdings {
     ghost use Rattle.triple_store.specs.StoreState.{limit_of};
-    ghost use Rattle.world.specs.Codes.{holdings_code};
-    ghost use Rattle.world.specs.InStep.{AreInStep};
-    ghost use Rattle.world.specs.Keeping.{seen};
-    ghost use Rattle.world.specs.WorldState.{HoldingsState};
+    ghost use Rattle.world.specs.{Codes.holdings_code, InStep.AreInStep, Keeping.seen, WorldState.HoldingsState};
 
     ghost Value = { HoldingsState };
 

@@ -1,8 +1,7 @@
 // What is kept of a page that an entity holds.
 
 ghost use Rattle.std.specs.Prelude.{◌≡◌};
-ghost use Rattle.world.specs.Keeping.{kept_of, keys_held};
-ghost use Rattle.world.specs.Timed.{counts_held, times_held};
+ghost use Rattle.world.specs.{Keeping.kept_of, Keeping.keys_held, Timed.counts_held, Timed.times_held};
 
 use crate::swapping::Had;
 use entity_model::EntityId;

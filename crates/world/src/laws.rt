@@ -3,20 +3,13 @@
 
 ghost use Rattle.std.specs.Prelude.{◌≡◌, ◌↔◌, ℕ, List, Option};
 ghost use Rattle.rising.specs.Rising.{In, IsRising};
-ghost use Rattle.rdf_term.specs.declared.triple.Triple.{Triple};
-ghost use Rattle.rdf_term.specs.Order.{triple_cmp};
-ghost use Rattle.entity_model.specs.declared.id.EntityId.{EntityId};
-ghost use Rattle.entity_model.specs.declared.mapping.MappingVersion.{MappingVersion};
+ghost use Rattle.rdf_term.specs.{declared.triple.Triple.Triple, Order.triple_cmp};
+ghost use Rattle.entity_model.specs.{declared.id.EntityId.EntityId, declared.mapping.MappingVersion.MappingVersion};
 ghost use Rattle.revisions.specs.Revisions.{Contents};
-ghost use Rattle.replay_model.specs.PlayedVersions.{by_two_after_event, by_two_remapped};
-ghost use Rattle.replay_model.specs.Records.{Records, record_of};
+ghost use Rattle.replay_model.specs.{PlayedVersions.by_two_after_event, PlayedVersions.by_two_remapped, Records.Records, Records.record_of};
 ghost use Rattle.replay_model.specs.Versions.{all_by};
 ghost use Rattle.triple_store.specs.declared.telling.Change.{Change};
-ghost use Rattle.world.specs.declared.applied.Applied.{Applied};
-ghost use Rattle.world.specs.Applying.{Applies};
-ghost use Rattle.world.specs.Changing.{IsChangeOf};
-ghost use Rattle.world.specs.Meaning.{meaning};
-ghost use Rattle.world.specs.Means.{Means};
+ghost use Rattle.world.specs.{declared.applied.Applied.Applied, Applying.Applies, Changing.IsChangeOf, Meaning.meaning, Means.Means};
 ghost use Rattle.world.specs.WorldState.{AreHolders, WorldState, by_two_after};
 
 /// Bytes mean a triple exactly where they are a page of the entity with a document, a rule of the dump gives a triple for it, and

@@ -4,19 +4,12 @@ ghost use Rattle.std.specs.Prelude.{◌≡◌, ◌<◌, ◌≤◌, true, Some, N
 ghost use Rattle.std.specs.FinMap as map;
 ghost use Rattle.std.specs.List.{AllByRecursion};
 ghost use Rattle.rising.specs.Rising.{sorted};
-ghost use Rattle.rdf_term.specs.Fit.{HasFitAndShortTerms};
-ghost use Rattle.rdf_term.specs.Order.{triple_cmp};
+ghost use Rattle.rdf_term.specs.{Fit.HasFitAndShortTerms, Order.triple_cmp};
 ghost use Rattle.term_pool.specs.declared.fault.PoolFault.TheVariants.{Full};
 ghost use Rattle.triple_store.specs.StoreState.{beside};
-ghost use Rattle.replay_model.specs.Records.{record_of};
-ghost use Rattle.replay_model.specs.Union.{triples_held};
-ghost use Rattle.replay_model.specs.Versions.{is_holder, meaning_by, with_version};
-ghost use Rattle.world.specs.Changing.{Tells};
-ghost use Rattle.world.specs.Keeping.{held_with, kept_of, piece_at, with_keys};
-ghost use Rattle.world.specs.Meaning.{meaning};
-ghost use Rattle.world.specs.Roomed.{HasRoom, room_with};
-ghost use Rattle.world.specs.Routed.{AreTriplesOf};
-ghost use Rattle.world.specs.WorldState.{AreHolders, stored_in};
+ghost use Rattle.replay_model.specs.{Records.record_of, Union.triples_held, Versions.is_holder, Versions.meaning_by, Versions.with_version};
+ghost use Rattle.world.specs.{Changing.Tells, Keeping.held_with, Keeping.kept_of, Keeping.piece_at, Keeping.with_keys, Meaning.meaning};
+ghost use Rattle.world.specs.{Roomed.HasRoom, Roomed.room_with, Routed.AreTriplesOf, WorldState.AreHolders, WorldState.stored_in};
 
 use crate::applied::Remapped;
 use crate::fetching::{Wanted, texts_in};

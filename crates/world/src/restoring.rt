@@ -6,15 +6,11 @@ ghost use Rattle.std.specs.List.{list_any};
 ghost use Rattle.entity_json.specs.Document.{unfit_of};
 ghost use Rattle.entity_state.specs.Record.{held_revision, is_held};
 ghost use Rattle.reorder_buffer.specs.Buffered.{after_taking};
-ghost use Rattle.replay_model.specs.Entries.{is_of_revision};
-ghost use Rattle.replay_model.specs.Replies.{HoldsDocument};
-ghost use Rattle.replay_model.specs.Union.{triples_held};
+ghost use Rattle.replay_model.specs.{Entries.is_of_revision, Replies.HoldsDocument, Union.triples_held};
 ghost use Rattle.replay_model.specs.Versions.{all_by, meaning_by, with_version};
-ghost use Rattle.world.specs.Fetched.{IsPageOf};
-ghost use Rattle.world.specs.Meaning.{meaning};
-ghost use Rattle.world.specs.Restoring.{MayStand, by_two_with, is_told, restored};
-ghost use Rattle.world.specs.Roomed.{HasRoom, room_with};
-ghost use Rattle.world.specs.WorldState.{AreHolders};
+ghost use Rattle.world.specs.{Fetched.IsPageOf, Meaning.meaning};
+ghost use Rattle.world.specs.Restoring.{MayStand, by_two_with, is_accounted_for, restored};
+ghost use Rattle.world.specs.{Roomed.HasRoom, Roomed.room_with, WorldState.AreHolders};
 ghost use Rattle.world.specs.declared.restoring.RestoreFault.TheVariants.{Full, Unsound, OutOfMemory as Refused};
 
 use crate::applied::Handling;
@@ -84,7 +80,7 @@ impl World {
         ensures holders { AreHolders self.new.by_two self.new.replay.played.records }
         ensures err { OnErr result (self.new ≡ self.old) }
     {
-        if !is_told(&self.side, id, &entity) {
+        if !is_accounted_for(&self.side, id, &entity) {
             return Err(RestoreFault::Unsound);
         }
         match self.holdings.restore(id, entity, self.mapping) {
@@ -227,8 +223,8 @@ fn bytes_of(text: Text) -> Vec<u8>
 }
 
 // Whether nothing is held of a page that isn't kept, and the side output tells of the revision that is wanted, unless it is held.
-fn is_told(side: &Side, id: EntityId, entity: &Record<Text>) -> bool
-    ensures { result ≡ is_told side.now.entries id entity.now }
+fn is_accounted_for(side: &Side, id: EntityId, entity: &Record<Text>) -> bool
+    ensures { result ≡ is_accounted_for side.now.entries id entity.now }
 {
     match entity.state.mode {
         Mode::Kept => holds(entity, entity.state.rev)

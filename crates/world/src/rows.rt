@@ -2,12 +2,8 @@
 
 ghost use Rattle.std.specs.Prelude.{◌≡◌, length, IfOk};
 ghost use Rattle.std.specs.List.{AllByRecursion};
-ghost use Rattle.rdf_term.specs.Fit.{HasFitAndShortTerms};
-ghost use Rattle.rdf_term.specs.Order.{triple_cmp};
-ghost use Rattle.rdf_term.specs.Pattern.{rows};
-ghost use Rattle.replay_model.specs.Records.{record_of};
-ghost use Rattle.replay_model.specs.Union.{owners, triples_held, union};
-ghost use Rattle.replay_model.specs.Versions.{meaning_by};
+ghost use Rattle.rdf_term.specs.{Fit.HasFitAndShortTerms, Order.triple_cmp, Pattern.rows};
+ghost use Rattle.replay_model.specs.{Records.record_of, Union.owners, Union.triples_held, Union.union, Versions.meaning_by};
 ghost use Rattle.world.specs.Meaning.{meaning};
 
 use crate::holdings::Holdings;

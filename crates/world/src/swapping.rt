@@ -3,12 +3,9 @@
 ghost use Rattle.std.specs.Prelude.{◌≡◌, ◌<◌};
 ghost use Rattle.rdf_term.specs.declared.triple.Triple.{Triple};
 ghost use Rattle.replay_model.specs.Records.{Bytes};
-ghost use Rattle.triple_store.specs.Counts.{count_of};
-ghost use Rattle.triple_store.specs.StoreState.{IsSound, counts_in};
+ghost use Rattle.triple_store.specs.{Counts.count_of, StoreState.IsSound, StoreState.counts_in};
 ghost use Rattle.triple_store.specs.Updates.{AreStored, KeepsRest, MayCome};
-ghost use Rattle.world.specs.Fetched.{bytes_of};
-ghost use Rattle.world.specs.Listed.{AreTextsOf};
-ghost use Rattle.world.specs.declared.fetching.Wanted.{Wanted as TheWanted};
+ghost use Rattle.world.specs.{Fetched.bytes_of, Listed.AreTextsOf, declared.fetching.Wanted.Wanted as TheWanted};
 ghost use Rattle.world.specs.Swapped.{IsPageExchange, IsPageExchangeIfDone, MaySwap, MaySwapParts, with_counts};
 
 use crate::applied::Handling;

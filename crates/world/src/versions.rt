@@ -1,12 +1,8 @@
 // By which version of the mapping the held pages are mapped, and how one is mapped by another.
 
 ghost use Rattle.std.specs.Prelude.{◌≡◌, ◌<◌, ◌≤◌, ◌+◌, true, None, IfOk, IfSome, IsErrOf, IsOk, OnErr, OnOk, length};
-ghost use Rattle.replay_model.specs.Records.{record_of};
-ghost use Rattle.replay_model.specs.Versions.{all_by, is_holder, meaning_by};
-ghost use Rattle.world.specs.Changing.{Tells, entity_of};
-ghost use Rattle.world.specs.Meaning.{meaning};
-ghost use Rattle.world.specs.Roomed.{HasRoom, room_with};
-ghost use Rattle.world.specs.Routed.{AreTriplesOf};
+ghost use Rattle.replay_model.specs.{Records.record_of, Versions.all_by, Versions.is_holder, Versions.meaning_by};
+ghost use Rattle.world.specs.{Changing.Tells, Changing.entity_of, Meaning.meaning, Roomed.HasRoom, Roomed.room_with, Routed.AreTriplesOf};
 ghost use Rattle.world.specs.WorldState.{AreHolders, first_of, held_version, next_stale, remapped, stale, stale_by, stored_of, triples_anew, version_in};
 ghost use Rattle.world.specs.declared.applied.WorldFault.TheVariants.{Full, Nothing as NothingDue};
 

@@ -6,13 +6,9 @@ ghost use Rattle.std.specs.FinMap as map;
 ghost use Rattle.entity_json.specs.Document.{unfit_of};
 ghost use Rattle.entity_model.specs.declared.id.EntityId.{EntityId as AnEntity};
 ghost use Rattle.reorder_buffer.specs.Buffered.{first_due};
-ghost use Rattle.replay_model.specs.Entries.{HoldsUnlessOpen, is_open_in};
-ghost use Rattle.replay_model.specs.Records.{record_of};
-ghost use Rattle.replay_model.specs.Replies.{HoldsDocument};
+ghost use Rattle.replay_model.specs.{Entries.HoldsUnlessOpen, Entries.is_open_in, Records.record_of, Replies.HoldsDocument};
 ghost use Rattle.replay_model.specs.Versions.{meaning_by};
-ghost use Rattle.world.specs.Laid.{IsLaid};
-ghost use Rattle.world.specs.Meaning.{meaning};
-ghost use Rattle.world.specs.Roomed.{room_with};
+ghost use Rattle.world.specs.{Laid.IsLaid, Meaning.meaning, Roomed.room_with};
 
 use crate::world::World;
 use entity_model::{EntityId, Event};

@@ -6,20 +6,15 @@ ghost use Rattle.revisions.specs.Revisions.{counted};
 ghost use Rattle.reorder_buffer.specs.Buffered.{after_taking, answer_to, first_due};
 ghost use Rattle.replay_model.specs.Records.{record_of};
 ghost use Rattle.replay_model.specs.ReplayState.{after_end, after_event, after_mark, nothing_delivered, nothing_delivered_within, taken_entries};
-ghost use Rattle.replay_model.specs.Union.{triples_held};
-ghost use Rattle.replay_model.specs.Versions.{meaning_by};
+ghost use Rattle.replay_model.specs.{Union.triples_held, Versions.meaning_by};
 ghost use Rattle.world.specs.Applying.{Applies, IsReply, IsShown, calls_after, outcome_of_reply};
-ghost use Rattle.entity_state.specs.Standing.{standing_after, standing_of, standing_wants};
-ghost use Rattle.entity_state.specs.State.{state_after};
-ghost use Rattle.world.specs.Changing.{Tells};
-ghost use Rattle.world.specs.Fetched.{AreMeant, reply_of, reply_or_any};
-ghost use Rattle.world.specs.Meaning.{meaning};
-ghost use Rattle.world.specs.Roomed.{HasRoom, IsOverfull, room_with};
-ghost use Rattle.world.specs.Routed.{AreRouted, GivesPage};
+ghost use Rattle.world.specs.{Changing.Tells, Fetched.AreMeant, Fetched.reply_of, Fetched.reply_or_any, Meaning.meaning};
+ghost use Rattle.world.specs.{Roomed.HasRoom, Roomed.IsOverfull, Roomed.room_with, Routed.AreRouted, Routed.GivesPage};
 ghost use Rattle.world.specs.WorldState.{AreHolders, by_two_after, stored_of};
-ghost use Rattle.entity_model.specs.declared.mapping.MappingVersion.TheVariants.{One};
 ghost use Rattle.world.specs.declared.applied.Outcome.TheVariants.{Stored};
 ghost use Rattle.world.specs.declared.applied.WorldFault.TheVariants.{Full, Nothing as NothingDue};
+ghost use Rattle.entity_state.specs.{Standing.standing_after, Standing.standing_of, Standing.standing_wants, State.state_after};
+ghost use Rattle.entity_model.specs.declared.mapping.MappingVersion.TheVariants.{One};
 
 use crate::applied::{Application, Applied, Effect, Handling, WorldFault};
 use crate::fetching::{Beside, Reply, Wanted, fetch};
@@ -51,16 +46,11 @@ pub struct World {
 }
 
 impl Model for World {
-    ghost use Rattle.replay_model.specs.Entries.{HoldsUnlessOpen};
-    ghost use Rattle.world.specs.Codes.{world_code};
+    ghost use Rattle.replay_model.specs.{Entries.HoldsUnlessOpen, Records.record_of, Replies.HoldsDocument, Versions.meaning_by};
+    ghost use Rattle.world.specs.{Codes.world_code, Meaning.meaning, Roomed.HasRoom};
+    ghost use Rattle.world.specs.WorldState.{AreHolders, WorldState, played_of};
     ghost use Rattle.entity_json.specs.Document.{unfit_of};
     ghost use Rattle.entity_model.specs.declared.id.EntityId.{EntityId};
-    ghost use Rattle.replay_model.specs.Records.{record_of};
-    ghost use Rattle.replay_model.specs.Replies.{HoldsDocument};
-    ghost use Rattle.replay_model.specs.Versions.{meaning_by};
-    ghost use Rattle.world.specs.Meaning.{meaning};
-    ghost use Rattle.world.specs.Roomed.{HasRoom};
-    ghost use Rattle.world.specs.WorldState.{AreHolders, WorldState, played_of};
 
     ghost Value = { WorldState };
 

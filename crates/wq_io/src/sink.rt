@@ -1,8 +1,7 @@
 // What bytes are written to.
 
 ghost use Rattle.std.specs.Prelude.{◌≡◌, ℕ, ◌<◌, ◌≤◌, List, Option, length, IfOk, IfErr, IfSome};
-ghost use Rattle.wq_io.specs.Streams.{WritePuts, Rose};
-ghost use Rattle.wq_io.specs.declared.sink.NoWrite.TheVariants.{Failed as CallFailed};
+ghost use Rattle.wq_io.specs.{Streams.WritePuts, Streams.Rose, declared.sink.NoWrite.TheVariants.Failed as CallFailed};
 
 use thiserror::Error;
 

@@ -8,9 +8,9 @@ use Rattle.splitting.proofs.Following.{may_be_sound}
 use Rattle.splitting.proofs.Roomed.{may_have_room}
 use Rattle.session.specs.Counts.{counts}
 use Rattle.session.specs.Moment.{stage}
-use Rattle.session.proofs.Due.{IsApplied, applies-leads, goes-further, goes-nowhere, gone-on, none_due, starved, untold}
+use Rattle.session.proofs.Due.{IsApplied, applies-leads, goes-further, goes-nowhere, gone-on, none_due, starved, unprinted}
 use Rattle.session.proofs.Needed.{applied_has_room}
-use Rattle.session.proofs.Reports.{never_untold, still_silent, untold_held_up}
+use Rattle.session.proofs.Reports.{never_unprinted, still_silent, unprinted_held_up}
 use Rattle.session.proofs.Versions.{applies-versions, keeps-further}
 use Rattle.session.proofs.delivering.apply_due.Goals as goal
 
@@ -78,13 +78,13 @@ returns-in-Err-clause-err g c =
       keeps = applies-versions _ _ c.loop-applied.world c.apply_next_with.new.self _ applied call.mapping call.by_two;
       has_room = applied_has_room _ _ _ c.loop-applied.world c.apply_next_with.new.self.replay _ applied (rw before.limit at call.within);
     } in
-    untold _ _ c.in-Err.why _ _ _ _ c.loop-applied.reported _ _ _ before.versions before.goes is told
+    unprinted _ _ c.in-Err.why _ _ _ _ c.loop-applied.reported _ _ _ before.versions before.goes is told
 
 pub returns-in-Err-clause-held_up : goal.returns-in-Err-clause-held_up
 returns-in-Err-clause-held_up g c =
     let changed = rw c.telling.ensures at c.in-Ok.ensures.change in
     let told = c.in-Err.ensures.tells _ _ changed in
-    untold_held_up _ c.in-Err.why _ _ _ (output g.K.Sink c.args.out.now) (stage g.R.Revisions g.K.Sink c.apply_next_with.new.revisions c.tell.new.out c.apply_next_with.new.self)
+    unprinted_held_up _ c.in-Err.why _ _ _ (output g.K.Sink c.args.out.now) (stage g.R.Revisions g.K.Sink c.apply_next_with.new.revisions c.tell.new.out c.apply_next_with.new.self)
     (output g.K.Sink c.loop-applied.out) c.loop-applied.invariant.written.faults told
 
 pub returns-in-Err-clause-versions : goal.returns-in-Err-clause-versions
@@ -97,7 +97,7 @@ returns-in-Err-clause-versions g c =
 pub returns-in-Err-clause-silent : goal.returns-in-Err-clause-silent
 returns-in-Err-clause-silent g c =
     let changed = rw c.telling.ensures at c.in-Ok.ensures.change in
-    λ answers. never_untold _ c.in-Err.why _ _ _ _ answers (c.in-Err.ensures.tells _ _ changed)
+    λ answers. never_unprinted _ c.in-Err.why _ _ _ _ answers (c.in-Err.ensures.tells _ _ changed)
 
 pub returns-in-Err-Nothing-clause-ok : goal.returns-in-Err-Nothing-clause-ok
 returns-in-Err-Nothing-clause-ok g c =

@@ -7,7 +7,7 @@ use Rattle.world.specs.WorldState.{AreHolders, WorldState, stale}
 use Rattle.term_pool.specs.declared.fault.PoolFault.TheVariants.{Full, OutOfMemory}
 use Rattle.session.specs.Remapping.{HoldsWithin}
 use Rattle.session.proofs.Pages.{told_all, told_before, told_but_last, told_next, told_none}
-use Rattle.session.proofs.Reports.{never_untold, still_silent}
+use Rattle.session.proofs.Reports.{never_unprinted, still_silent}
 use Rattle.session.proofs.Versions.{Remaps, remaps_all, remaps_all_roomed, remaps_full, remaps_next, remaps_none}
 use Rattle.session.proofs.remapping.take_mapping.Goals as goal
 
@@ -91,7 +91,7 @@ returns-in-Err-clause-written g c =
 pub returns-in-Err-clause-silent : goal.returns-in-Err-clause-silent
 returns-in-Err-clause-silent g c =
     let changed = rw (c.telling.ensures, c.in-Ok-Some.field-0-is) at c.in-Ok-Some.ensures.change in
-    λ answers. never_untold _ c.in-Err.why _ _ _ _ answers (c.in-Err.ensures.tells _ _ changed)
+    λ answers. never_unprinted _ c.in-Err.why _ _ _ _ answers (c.in-Err.ensures.tells _ _ changed)
 
 -- ---- no room
 

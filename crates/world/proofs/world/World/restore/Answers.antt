@@ -6,19 +6,19 @@ use Rattle.replay_model.specs.Entries.{HoldsUnlessOpen}
 use Rattle.replay_model.specs.Records.{Records, record_of}
 use Rattle.replay_model.specs.Replies.{HoldsDocument}
 use Rattle.replay_model.specs.Versions.{all_by}
-use Rattle.world.specs.Restoring.{by_two_with, is_told}
+use Rattle.world.specs.Restoring.{by_two_with, is_accounted_for}
 use Rattle.world.specs.WorldState.{HoldingsState, played_of}
-use Rattle.world.proofs.PuttingIn.{documents_put, holds_put, put_by_one, told_stands}
+use Rattle.world.proofs.PuttingIn.{documents_put, holds_put, put_by_one, accounted_stands}
 use Rattle.world.proofs.world.World.restore.Goals as goal
 use Rattle.world.proofs.world.World.restore.Goals.{in-Ok, in-Err}
 
 pub invariant_of-self : goal.invariant_of-self
 invariant_of-self c =
-    let told : is_told c.self.inside.side.entries c.args.id c.args.entity ≡ true = search rules in
+    let told : is_accounted_for c.self.inside.side.entries c.args.id c.args.entity ≡ true = search rules in
     elim c.match-restore.branch [
       | in-Ok w ↦ (
         subst (λ (m : Records). HoldsUnlessOpen (record { records = m; side = c.self.inside.side.entries })) (sym w.in-Ok.ensures.ok)
-            (holds_put (played_of c.self.inside.holdings c.self.inside.side.entries) c.args.id c.args.entity c.self.invariant.0 (told_stands _ _ _ told w.in-Ok.ensures.document)),
+            (holds_put (played_of c.self.inside.holdings c.self.inside.side.entries) c.args.id c.args.entity c.self.invariant.0 (accounted_stands _ _ _ told w.in-Ok.ensures.document)),
         c.restore.ensures.held,
         c.restore.ensures.holders,
         subst (λ (m : Records). (x : EntityId) → HoldsDocument unfit_of x (record_of m x).held) (sym w.in-Ok.ensures.ok)
@@ -34,9 +34,9 @@ invariant_of-self c =
 
 pub returns-clause-sound : goal.returns-clause-sound
 returns-clause-sound c =
-    let told : is_told c.self.inside.side.entries c.args.id c.args.entity ≡ true = search rules in
+    let told : is_accounted_for c.self.inside.side.entries c.args.id c.args.entity ≡ true = search rules in
     elim c.match-restore.branch [
-      | in-Ok w ↦ rw (w.result-is, ← c.self.view_is) (told_stands c.self.inside.side.entries c.args.id c.args.entity told w.in-Ok.ensures.document)
+      | in-Ok w ↦ rw (w.result-is, ← c.self.view_is) (accounted_stands c.self.inside.side.entries c.args.id c.args.entity told w.in-Ok.ensures.document)
       | in-Err w ↦ rw w.result-is tt
     ]
 

@@ -1,0 +1,3 @@
+mod GivenBack
+mod Loadable
+mod LoadedRoom

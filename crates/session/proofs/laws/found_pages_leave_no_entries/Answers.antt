@@ -1,6 +1,0 @@
--- The play of these replies names nothing.
-use Rattle.session.proofs.Complete.{nothing_named}
-use Rattle.session.proofs.laws.found_pages_leave_no_entries.Goals as goal
-
-pub returns : goal.returns
-returns c = λ run before now contents first ending known. nothing_named run before now contents first ending known

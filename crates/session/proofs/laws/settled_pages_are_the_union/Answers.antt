@@ -1,6 +1,0 @@
--- Each entity holds what is there.
-use Rattle.session.proofs.Complete.{settled_union}
-use Rattle.session.proofs.laws.settled_pages_are_the_union.Goals as goal
-
-pub returns : goal.returns
-returns c = λ run before now contents first ending known. settled_union run before now contents first ending known

@@ -1,6 +1,0 @@
--- The lines of the texts are those of the records.
-use Rattle.session.proofs.Followed.{written_records}
-use Rattle.session.proofs.laws.written_streams_are_records.Goals as goal
-
-pub returns : goal.returns
-returns c = λ run start end first ended bytes limit known bounded sides within. written_records run start end first ended bytes known bounded limit sides within

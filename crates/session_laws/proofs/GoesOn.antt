@@ -1,0 +1,130 @@
+-- A run that goes on from bytes that another run saved.
+use Rattle.std.proofs.Common.{◌≡◌, refl, sym, subst, ◌∙◌, ap, ℕ, false, List, [], ◌++◌, Option, None, Some, IfSome, IsSome}
+use Rattle.wq_io.specs.Streams.{after_known}
+use Rattle.delivery.specs.declared.Delivery.{Delivery}
+use Rattle.replay_model.specs.Play.{Replies}
+use Rattle.replay_model.specs.Transcript.{said}
+use Rattle.world.specs.Meaning.{meaning}
+use Rattle.patch_stream.specs.Stream.{changes, steps_of_play, stream_text}
+use Rattle.snapshot.specs.File.{saved_in_bytes}
+use Rattle.snapshot.specs.Whole.{Saved}
+use Rattle.world.specs.WorldState.{WorldState}
+use Rattle.checkpoint.specs.declared.numbers.Numbers.{Numbers}
+use Rattle.checkpoint.specs.Saved.{numbers_of as numbers_back, saved_of}
+use Rattle.following.specs.Input.{Input}
+use Rattle.words.specs.Options.{closes}
+use Rattle.session.specs.declared.report.Report.TheVariants.{Answers, Changes}
+use Rattle.session.specs.declared.status.Status.{Status}
+use Rattle.session.specs.declared.status.Status.TheVariants.{Ok as Ended}
+use Rattle.session.specs.Headline.{Ending, HasFates, numbers_saved}
+use Rattle.session.specs.Moment.{Moment, Run, Stage, behind, start_in, start_of}
+use Rattle.session.specs.OneRun.{CountsQuestions, HoldsAndNames, StandsAfter, printed_by, printed_in_all, said_from_start, state_ended, steps_ended}
+use Rattle.session.specs.Resuming.{IsResumed, with_loaded}
+use Rattle.session.specs.Saving.{HasSaved, saved_at, snapshot_text}
+use Rattle.session.specs.Sections.{sections_of}
+use Rattle.session.specs.OneRun.{TwoRuns, all_deliveries, all_replies, first_deliveries, first_replies, horizon_of}
+use Rattle.session_laws.proofs.OneRun.{fates_are, first_counts, first_patches, first_stands, holds_are, next_counts, next_patches, next_stands, prints_by, prints_rest, streams_rest, world_is}
+
+-- such bytes give back one world with one set of counts
+begins_at : (status : Status) (run : Run) (before now : Moment) (stage : Stage) (numbers : Numbers) (resumed : IsResumed status run before now) → IfSome before.resumed.left (λ bytes. saved_in_bytes bytes ≡ Some (saved_at stage numbers)) →
+    IsSome before.resumed.left → saved_of resumed.world resumed.numbers ≡ saved_at stage numbers
+begins_at status run before now stage numbers resumed saved told = by before.resumed.left told resumed.loaded.saved saved
+  where
+    by : (left : Option (List ℕ)) → IsSome left → IfSome left (λ bytes. saved_in_bytes bytes ≡ Some (saved_of resumed.world resumed.numbers)) → IfSome left (λ bytes. saved_in_bytes bytes ≡ Some (saved_at stage numbers)) →
+        saved_of resumed.world resumed.numbers ≡ saved_at stage numbers
+    by None never here there = cc
+    by (Some bytes) told here there =
+        let same : Some (saved_of resumed.world resumed.numbers) ≡ Some (saved_at stage numbers) = sym here ∙ there in
+        cc
+
+stands_there : (run : Run) (before : Moment) (rest : Input) (world : WorldState) (counts : Numbers) (stage : Stage) (numbers : Numbers) → saved_of world counts ≡ saved_at stage numbers →
+    (h : Option ℕ) (replies : Replies) (ds : List Delivery) → StandsAfter h replies ds (start_in numbers stage) → StandsAfter h replies ds (start_of (behind counts run) (with_loaded before rest world))
+stands_there run before rest world counts stage numbers same h replies ds stands = record {
+  world = ap (λ (s : Saved). s.state) same ∙ stands.world;
+  version = ap (λ (s : Saved). s.version) same ∙ stands.version;
+}
+
+counts_same : (world : WorldState) (counts : Numbers) (stage : Stage) (numbers : Numbers) → saved_of world counts ≡ saved_at stage numbers → counts ≡ numbers
+counts_same world counts stage numbers same = ap numbers_back same
+
+pub begins_there : (status : Status) (run : Run) (before now : Moment) (stage : Stage) (numbers : Numbers) (bytes : List ℕ) (resumed : IsResumed status run before now) →
+    before.resumed.left ≡ Some bytes → saved_in_bytes bytes ≡ Some (saved_at stage numbers) →
+    (h : Option ℕ) (replies : Replies) (ds : List Delivery) → StandsAfter h replies ds (start_in numbers stage) →
+    StandsAfter h replies ds (start_of (behind resumed.numbers run) (with_loaded before resumed.rest resumed.world)) × (resumed.numbers ≡ numbers)
+begins_there status run before now stage numbers bytes resumed left saved h replies ds stands =
+    let Told : Option (List ℕ) → Type 0 = λ o. IfSome o (λ b. saved_in_bytes b ≡ Some (saved_at stage numbers)) in
+    let same : saved_of resumed.world resumed.numbers ≡ saved_at stage numbers = begins_at status run before now stage numbers resumed (subst Told (sym left) saved) (subst (λ (o : Option (List ℕ)). IsSome o) (sym left) refl) in
+    (stands_there run before resumed.rest resumed.world resumed.numbers stage numbers same h replies ds stands, counts_same resumed.world resumed.numbers stage numbers same)
+
+-- what a run saves is told where its file began empty
+pub saved_told : (run : Run) (before now : Moment) (ending : Ending run before now) → closes run.choices ≡ false → before.snapshot.bytes ≡ Some [] → IsSome now.snapshot.bytes
+saved_told run before now ending open_still empty =
+    let text : List ℕ = snapshot_text (numbers_saved ending) now.stage in
+    let saved : now.snapshot.bytes ≡ after_known before.snapshot.bytes text = subst (λ closed. HasSaved closed text before.snapshot now.snapshot) open_still ending.saved in
+    subst (λ (o : Option (List ℕ)). IsSome o) (sym (saved ∙ ap (λ b. after_known b text) empty)) refl
+
+-- ---- two runs
+
+module _ (one two : Run) (before_one now_one before_two now_two : Moment) (runs : TwoRuns one two before_one now_one before_two now_two) (saved : IfSome now_one.snapshot.bytes (λ bytes. saved_in_bytes bytes ≡ Some (saved_at now_one.stage (numbers_saved runs.first)))) where
+  abbrev behind_one : Run
+  behind_one = behind runs.second.numbers two
+
+  abbrev loaded : Moment
+  loaded = with_loaded before_two runs.second.rest runs.second.world
+
+  abbrev outcome : Ending behind_one loaded now_two
+  outcome = runs.second.ending.outcome
+
+  first_stood : StandsAfter (horizon_of runs) (first_replies runs) [] (start_of one before_one)
+  first_stood = first_stands (start_of one before_one) runs.is_first (first_replies runs)
+
+  there : saved_of runs.second.world runs.second.numbers ≡ saved_at now_one.stage (numbers_saved runs.first)
+  there =
+      let Told : Option (List ℕ) → Type 0 = λ o. IfSome o (λ b. saved_in_bytes b ≡ Some (saved_at now_one.stage (numbers_saved runs.first))) in
+      begins_at Ended two before_two now_two now_one.stage (numbers_saved runs.first) runs.second (subst Told (sym runs.same) saved)
+      (subst (λ (o : Option (List ℕ)). IsSome o) (sym runs.same) (saved_told one before_one now_one runs.first runs.open_still runs.empty))
+
+  stands : StandsAfter (horizon_of runs) (first_replies runs) (first_deliveries runs) (start_of behind_one loaded)
+  stands = stands_there two before_two runs.second.rest runs.second.world runs.second.numbers now_one.stage (numbers_saved runs.first) there (horizon_of runs) (first_replies runs) (first_deliveries runs)
+      (next_stands (horizon_of runs) (first_replies runs) [] one before_one now_one first_stood runs.first runs.open_still)
+
+  numbers_are : runs.second.numbers ≡ numbers_saved runs.first
+  numbers_are = counts_same runs.second.world runs.second.numbers now_one.stage (numbers_saved runs.first) there
+
+  pub world_of_both : now_two.stage.world ≡ state_ended (closes two.choices) (horizon_of runs) (all_replies runs) (all_deliveries runs)
+  world_of_both = world_is (horizon_of runs) (first_replies runs) (first_deliveries runs) behind_one loaded now_two stands outcome
+
+  pub fates_of_both : HasFates (closes two.choices) (horizon_of runs) (all_deliveries runs) now_two.stage.world
+  fates_of_both = fates_are (horizon_of runs) (first_replies runs) (first_deliveries runs) behind_one loaded now_two stands outcome
+
+  pub holds_of_both : HoldsAndNames (horizon_of runs) (all_deliveries runs) now_two.stage.world
+  holds_of_both = holds_are (horizon_of runs) (first_replies runs) (first_deliveries runs) behind_one loaded now_two stands outcome
+
+  pub printed_by_both : one.environment.report ≡ Answers → two.environment.report ≡ Answers → two.environment.routes ≡ None →
+      (rest : List ℕ) × (now_two.stage.output.bytes ≡ after_known before_two.stage.output.bytes rest)
+      × (said meaning (horizon_of runs) (first_replies runs) (first_deliveries runs) ++ rest
+      ≡ printed_in_all (closes two.choices) (sections_of two.choices) (horizon_of runs) (all_replies runs) (all_deliveries runs))
+  printed_by_both one_answers two_answers whole =
+      prints_rest (horizon_of runs) (first_replies runs) (first_deliveries runs) behind_one loaded now_two stands outcome two_answers
+      (subst (λ n. CountsQuestions (first_deliveries runs) n) (sym numbers_are)
+      (next_counts (horizon_of runs) (first_replies runs) [] one before_one now_one first_stood runs.first one_answers (first_counts (start_of one before_one) runs.is_first)))
+      whole
+
+  pub printed_by_routes : one.environment.report ≡ Answers → two.environment.report ≡ Answers →
+      (rest : List ℕ) × (now_two.stage.output.bytes ≡ after_known before_two.stage.output.bytes rest)
+      × (said_from_start two.environment.routes (horizon_of runs) (first_replies runs) (first_deliveries runs) ++ rest
+      ≡ printed_by two.environment.routes (closes two.choices) (sections_of two.choices) (horizon_of runs) (all_replies runs) (all_deliveries runs))
+  printed_by_routes one_answers two_answers =
+      prints_by (horizon_of runs) (first_replies runs) (first_deliveries runs) behind_one loaded now_two stands outcome two_answers
+      (subst (λ n. CountsQuestions (first_deliveries runs) n) (sym numbers_are)
+      (next_counts (horizon_of runs) (first_replies runs) [] one before_one now_one first_stood runs.first one_answers (first_counts (start_of one before_one) runs.is_first)))
+
+  pub streamed_by_both : one.environment.report ≡ Changes → two.environment.report ≡ Changes →
+      (rest : List ℕ) × (now_two.stage.output.bytes ≡ after_known before_two.stage.output.bytes rest)
+      × (stream_text (steps_of_play (horizon_of runs) (first_replies runs) (first_deliveries runs)) ++ rest
+      ≡ stream_text (steps_ended (closes two.choices) (horizon_of runs) (all_replies runs) (all_deliveries runs)))
+  streamed_by_both one_changes two_changes =
+      streams_rest (horizon_of runs) (first_replies runs) (first_deliveries runs) behind_one loaded now_two stands outcome two_changes
+      (ap (λ (n : Numbers). n.patches) numbers_are
+      ∙ next_patches (horizon_of runs) (first_replies runs) [] one before_one now_one first_stood runs.first one_changes (first_patches (start_of one before_one) runs.is_first (first_replies runs))
+      ∙ ap (λ closed. changes (steps_ended closed (horizon_of runs) (first_replies runs) (first_deliveries runs))) runs.open_still)

@@ -1,0 +1,11 @@
+mod Beginnings
+mod Complete
+mod Finding
+mod Fitting
+mod Followed
+mod GoesOn
+mod OneRun
+mod Opening
+mod Reloading
+mod SaidRuns
+mod StreamRuns
