@@ -7,17 +7,29 @@ use std::alloc::Global;
 impl Given {
     /// The same once more.
     pub fn copy(&self, alloc: Global) -> Result<Given> {
-        Ok(Given {
-            words: words(alloc, self.words.as_slice())?,
-            input: Vec::from_slice(alloc, self.input.as_slice())?,
-            pages: pages(alloc, self.pages.as_slice())?,
-            reads: calls(alloc, &self.reads)?,
-            writes: calls(alloc, &self.writes)?,
-            saves: calls(alloc, &self.saves)?,
-            resumed: Vec::from_slice(alloc, self.resumed.as_slice())?,
-            loads: calls(alloc, &self.loads)?,
-            failing_fetches: Vec::from_slice(alloc, self.failing_fetches.as_slice())?,
-        })
+        let mut copy = Given::new(alloc);
+        self.copy_texts(alloc, &mut copy)?;
+        self.copy_calls(alloc, &mut copy)?;
+        Ok(copy)
+    }
+
+    // Copies the words, the pages, and the bytes that are read.
+    fn copy_texts(&self, alloc: Global, copy: &mut Given) -> Result<()> {
+        copy.words = words(alloc, self.words.as_slice())?;
+        copy.input = Vec::from_slice(alloc, self.input.as_slice())?;
+        copy.pages = pages(alloc, self.pages.as_slice())?;
+        copy.resumed = Vec::from_slice(alloc, self.resumed.as_slice())?;
+        Ok(())
+    }
+
+    // Copies the calls, and those that fail.
+    fn copy_calls(&self, alloc: Global, copy: &mut Given) -> Result<()> {
+        copy.reads = calls(alloc, &self.reads)?;
+        copy.writes = calls(alloc, &self.writes)?;
+        copy.saves = calls(alloc, &self.saves)?;
+        copy.loads = calls(alloc, &self.loads)?;
+        copy.failing_fetches = Vec::from_slice(alloc, self.failing_fetches.as_slice())?;
+        Ok(())
     }
 }
 

@@ -67,6 +67,9 @@ pub enum Turns {
     EachFrontOfSnapshot,
 }
 
+// The most bytes of a call where the case doesn't say.
+const BYTES_A_CALL: usize = 4096;
+
 // The names of the sections by which a case is tried with several runs.
 const TURNS: [&str; 6] = [
     "failing reads",
@@ -77,28 +80,56 @@ const TURNS: [&str; 6] = [
     "cut resume",
 ];
 
+impl Given {
+    // Nothing, of which no call fails. Other functions fill it in, so no way out drops its parts one by one, which would make long proofs.
+    pub(crate) fn new(alloc: Global) -> Given {
+        Given {
+            words: Vec::new(alloc),
+            input: Vec::new(alloc),
+            pages: Vec::new(alloc),
+            reads: all_well(alloc),
+            writes: all_well(alloc),
+            saves: all_well(alloc),
+            resumed: Vec::new(alloc),
+            loads: all_well(alloc),
+            failing_fetches: Vec::new(alloc),
+        }
+    }
+}
+
 /// What the run of a case is given.
 pub fn given_of(alloc: Global, case: &Case) -> Result<Given> {
-    let words = words(alloc, case)?;
-    let input = bytes_of(alloc, lines(case, "in").unwrap_or(""))?;
-    let pages = pages(alloc, case)?;
-    let reads = calls_of(alloc, case, "bytes a read", "failing reads")?;
-    let writes = calls_of(alloc, case, "bytes a write", "failing writes")?;
-    let saves = calls_of(alloc, case, "bytes a save", "failing saves")?;
-    let resumed = bytes_of(alloc, lines(case, "resume").unwrap_or(""))?;
-    let loads = calls_of(alloc, case, "bytes a load", "failing loads")?;
-    let failing_fetches = numbers(alloc, text(case, "failing fetches").unwrap_or(""))?;
-    Ok(Given {
-        words,
-        input,
-        pages,
-        reads,
-        writes,
-        saves,
-        resumed,
-        loads,
-        failing_fetches,
-    })
+    let mut given = Given::new(alloc);
+    give_texts(alloc, case, &mut given)?;
+    give_calls(alloc, case, &mut given)?;
+    Ok(given)
+}
+
+// Gives the words, the pages, and the bytes that are read.
+fn give_texts(alloc: Global, case: &Case, given: &mut Given) -> Result<()> {
+    given.words = words(alloc, case)?;
+    given.input = bytes_of(alloc, lines(case, "in").unwrap_or(""))?;
+    given.pages = pages(alloc, case)?;
+    given.resumed = bytes_of(alloc, lines(case, "resume").unwrap_or(""))?;
+    Ok(())
+}
+
+// Gives the calls, and those that fail.
+fn give_calls(alloc: Global, case: &Case, given: &mut Given) -> Result<()> {
+    given.reads = calls_of(alloc, case, "bytes a read", "failing reads")?;
+    given.writes = calls_of(alloc, case, "bytes a write", "failing writes")?;
+    given.saves = calls_of(alloc, case, "bytes a save", "failing saves")?;
+    given.loads = calls_of(alloc, case, "bytes a load", "failing loads")?;
+    given.failing_fetches = numbers(alloc, text(case, "failing fetches").unwrap_or(""))?;
+    Ok(())
+}
+
+// Calls of which none fails.
+fn all_well(alloc: Global) -> Calls {
+    Calls {
+        bytes: BYTES_A_CALL,
+        failing: Vec::new(alloc),
+    }
 }
 
 // The words behind the name of a section, where the case has it.
@@ -170,13 +201,13 @@ fn page_in(alloc: Global, words: &str, lines: &str) -> Result<Page> {
     Ok(Page { folder, rev, bytes })
 }
 
-// The bytes of a call, 4,096 where the case doesn't say, and the calls that fail.
+// The bytes of a call, and the calls that fail.
 fn calls_of(alloc: Global, case: &Case, bytes: &str, failing: &str) -> Result<Calls> {
     let failing = match text(case, failing) {
         None | Some("each") => "",
         Some(words) => words,
     };
-    let bytes = number(case, bytes)?.unwrap_or(4096);
+    let bytes = number(case, bytes)?.unwrap_or(BYTES_A_CALL);
     if bytes == 0 {
         bail!("no bytes a call");
     }
@@ -204,24 +235,31 @@ fn numbers(alloc: Global, words: &str) -> Result<Vec<u64>> {
 
 /// What the run of a case must leave: without a word of its own it ends with Ok and prints nothing.
 pub fn expected_of(alloc: Global, case: &Case) -> Result<Expected> {
-    let fetches = number(case, "fetches")?.map(|n| n as u64);
-    let waiting = number(case, "waiting")?.map(|n| n as u64);
     let status = String::from_str(alloc, text(case, "status").unwrap_or("0"))?;
-    let out = bytes_of(alloc, lines(case, "out").unwrap_or(""))?;
-    let saved = bytes_where_told(alloc, case, "saved")?;
-    let records = bytes_where_told(alloc, case, "records")?;
-    let side = bytes_where_told(alloc, case, "side")?;
-    let owners = bytes_where_told(alloc, case, "owners")?;
-    Ok(Expected {
+    let mut expected = Expected {
         status,
-        out,
-        saved,
-        records,
-        side,
-        owners,
-        fetches,
-        waiting,
-    })
+        out: Vec::new(alloc),
+        saved: None,
+        records: None,
+        side: None,
+        owners: None,
+        fetches: None,
+        waiting: None,
+    };
+    expect_texts(alloc, case, &mut expected)?;
+    expected.fetches = number(case, "fetches")?.map(|n| n as u64);
+    expected.waiting = number(case, "waiting")?.map(|n| n as u64);
+    Ok(expected)
+}
+
+// Expects what the sections say.
+fn expect_texts(alloc: Global, case: &Case, expected: &mut Expected) -> Result<()> {
+    expected.out = bytes_of(alloc, lines(case, "out").unwrap_or(""))?;
+    expected.saved = bytes_where_told(alloc, case, "saved")?;
+    expected.records = bytes_where_told(alloc, case, "records")?;
+    expected.side = bytes_where_told(alloc, case, "side")?;
+    expected.owners = bytes_where_told(alloc, case, "owners")?;
+    Ok(())
 }
 
 // The bytes of a section, where the case has it.

@@ -32,8 +32,7 @@ pub(crate) fn tried_till_stop<R: Runner>(
     status: &str,
     out: &[u8],
 ) -> Result<Option<String>> {
-    let out = Vec::from_slice(alloc, out)?;
-    let expected = stopped(alloc, status, out)?;
+    let expected = ending(alloc, status, out)?;
     tried_once(alloc, runner, given, &expected)
 }
 
@@ -45,16 +44,15 @@ pub(crate) fn tried_till_save_stops<R: Runner>(
     whole: &Expected,
     saved: &[u8],
 ) -> Result<Option<String>> {
-    let saved = Vec::from_slice(alloc, saved)?;
-    let out = Vec::from_slice(alloc, whole.out.as_slice())?;
-    let mut expected = stopped(alloc, "4 wdq: write fault", out)?;
-    expected.saved = Some(saved);
+    let mut expected = ending(alloc, "4 wdq: write fault", whole.out.as_slice())?;
+    expected.saved = Some(Vec::from_slice(alloc, saved)?);
     tried_once(alloc, runner, given, &expected)
 }
 
-// What a run must leave that stopped.
-fn stopped(alloc: Global, status: &str, out: Vec<u8>) -> Result<Expected> {
+// What a run must leave of which only the status and the output are looked at.
+pub(crate) fn ending(alloc: Global, status: &str, out: &[u8]) -> Result<Expected> {
     let status = String::from_str(alloc, status)?;
+    let out = Vec::from_slice(alloc, out)?;
     Ok(Expected {
         status,
         out,

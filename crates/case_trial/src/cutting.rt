@@ -1,6 +1,6 @@
 // A run cut in two after each of its lines: the first part is saved, and the second goes on from the snapshot.
 
-use crate::comparing::tried_once;
+use crate::comparing::{ending, tried_once};
 use crate::runner::{Left, Runner};
 use crate::trial::{Trial, differs_at};
 use anyhow::Result;
@@ -94,11 +94,9 @@ fn difference_of_parts<R: Runner>(
 
 // The first lines, which are saved. No section is printed.
 fn first_part(alloc: Global, given: &Given, cut: usize) -> Result<Given> {
-    let words = saving_words(alloc, given.words.as_slice())?;
-    let input = first_lines(alloc, given.input.as_slice(), cut)?;
     let mut part = given.copy(alloc)?;
-    part.words = words;
-    part.input = input;
+    part.words = saving_words(alloc, given.words.as_slice())?;
+    part.input = first_lines(alloc, given.input.as_slice(), cut)?;
     Ok(part)
 }
 
@@ -123,17 +121,20 @@ fn first_lines(alloc: Global, text: &[u8], count: usize) -> Result<Vec<u8>> {
     Ok(first)
 }
 
-// The other lines, which go on from what was saved. The calls that fail are counted on.
+// The other lines, which go on from what was saved.
 fn second_part(alloc: Global, given: &Given, cut: usize, first: &Left) -> Result<Given> {
-    let input = lines_behind(alloc, given.input.as_slice(), cut)?;
-    let failing = counted_on(alloc, given.failing_fetches.as_slice(), first.fetches)?;
-    let resumed = Vec::from_slice(alloc, first.saved.as_slice())?;
     let mut part = given.copy(alloc)?;
-    push_word(alloc, &mut part.words, "--resume=day")?;
-    part.resumed = resumed;
-    part.input = input;
-    part.failing_fetches = failing;
+    go_on_from(alloc, first, &mut part)?;
+    part.input = lines_behind(alloc, given.input.as_slice(), cut)?;
     Ok(part)
+}
+
+// Lets a run go on from what the first part saved. The calls that fail are counted on.
+fn go_on_from(alloc: Global, first: &Left, part: &mut Given) -> Result<()> {
+    push_word(alloc, &mut part.words, "--resume=day")?;
+    part.resumed = Vec::from_slice(alloc, first.saved.as_slice())?;
+    part.failing_fetches = counted_on(alloc, part.failing_fetches.as_slice(), first.fetches)?;
+    Ok(())
 }
 
 // The lines of a text behind so many.
@@ -163,18 +164,21 @@ fn rest(alloc: Global, whole: &Expected, first: &Left) -> Result<Option<Expected
     let Some(out) = whole.out.as_slice().strip_prefix(answers.as_slice()) else {
         return Ok(None);
     };
-    Ok(Some(Expected {
-        status: whole.status.clone()?,
-        out: Vec::from_slice(alloc, out)?,
-        saved: None,
-        records: copied(alloc, &whole.records)?,
-        side: copied(alloc, &whole.side)?,
-        owners: copied(alloc, &whole.owners)?,
-        fetches: whole
-            .fetches
-            .map(|count| count.saturating_sub(first.fetches)),
-        waiting: whole.waiting,
-    }))
+    let mut rest = ending(alloc, whole.status.as_str(), out)?;
+    copy_world(alloc, whole, &mut rest)?;
+    rest.fetches = whole
+        .fetches
+        .map(|count| count.saturating_sub(first.fetches));
+    rest.waiting = whole.waiting;
+    Ok(Some(rest))
+}
+
+// Copies what the world must have.
+fn copy_world(alloc: Global, whole: &Expected, rest: &mut Expected) -> Result<()> {
+    rest.records = copied(alloc, &whole.records)?;
+    rest.side = copied(alloc, &whole.side)?;
+    rest.owners = copied(alloc, &whole.owners)?;
+    Ok(())
 }
 
 // What a part printed before the triples of its graphs, if it has graphs.

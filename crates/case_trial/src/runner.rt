@@ -25,6 +25,22 @@ pub struct Left {
     pub waiting: u64,
 }
 
+impl Left {
+    /// Nothing.
+    pub fn new(alloc: Global) -> Left {
+        Left {
+            status: String::new(alloc),
+            out: Vec::new(alloc),
+            saved: Vec::new(alloc),
+            records: String::new(alloc),
+            side: String::new(alloc),
+            owners: String::new(alloc),
+            fetches: 0,
+            waiting: 0,
+        }
+    }
+}
+
 /// Makes runs.
 pub trait Runner {
     /// Makes a run over what is given. The owners are those of the triples in `asked`, a line each.

@@ -55,18 +55,28 @@ fn left(
     ports: &MemoryPorts,
     asked: &[u8],
 ) -> Result<Left> {
-    let out = Vec::from_slice(alloc, ports.out.bytes())?;
-    let saved = Vec::from_slice(alloc, ports.snapshot.bytes())?;
-    Ok(Left {
-        status: status_line(alloc, status)?,
-        out,
-        saved,
-        records: records(alloc, world)?,
-        side: side(alloc, world)?,
-        owners: owners(alloc, world, asked)?,
-        fetches: ports.revisions.fetches(),
-        waiting: world.pending() as u64,
-    })
+    let mut left = Left::new(alloc);
+    left.status = status_line(alloc, status)?;
+    see_ports(alloc, ports, &mut left)?;
+    see_world(alloc, world, asked, &mut left)?;
+    Ok(left)
+}
+
+// Sees what was printed, saved and fetched.
+fn see_ports(alloc: Global, ports: &MemoryPorts, left: &mut Left) -> Result<()> {
+    left.out = Vec::from_slice(alloc, ports.out.bytes())?;
+    left.saved = Vec::from_slice(alloc, ports.snapshot.bytes())?;
+    left.fetches = ports.revisions.fetches();
+    Ok(())
+}
+
+// Sees what the world has.
+fn see_world(alloc: Global, world: &World, asked: &[u8], left: &mut Left) -> Result<()> {
+    left.records = records(alloc, world)?;
+    left.side = side(alloc, world)?;
+    left.owners = owners(alloc, world, asked)?;
+    left.waiting = world.pending() as u64;
+    Ok(())
 }
 
 // The number of a status, and its text where it has one.
