@@ -12,6 +12,7 @@ mod numbers;
 mod saving;
 
 pub use fault::LoadFault;
+pub use loader::Stage;
 pub use loading::{Loaded, load};
 pub use numbers::Numbers;
 pub use saving::save;

@@ -23,7 +23,7 @@ use world::{RestoreFault, World};
 
 /// How far the lines of a snapshot have come.
 #[derive(Clone, Copy, Debug, PartialEq, Eq)]
-pub(crate) enum Stage {
+pub enum Stage {
     /// The head is still to come.
     Unbegun,
     /// The head was taken, and with it these numbers.

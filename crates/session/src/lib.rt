@@ -28,5 +28,7 @@ mod taking;
 mod task;
 
 pub use ports::Ports;
+pub use report::Report;
 pub use running::run;
 pub use status::{Status, status_number, status_text};
+pub use stop::{Halt, Stop};

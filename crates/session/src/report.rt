@@ -6,17 +6,17 @@ ghost use Rattle.session.specs.{Report.reported_before, Report.telling_of, Savin
 use checkpoint::Numbers;
 use triple_store::Telling;
 
-// What a run reports of the deliveries that it takes.
+/// What a run reports of the deliveries that it takes.
 #[derive(Clone, Copy, Debug, PartialEq, Eq)]
 pub enum Report {
-    // The answers to questions.
+    /// The answers to questions.
     Answers,
-    // The changes of the stored triples, a record for each step that changes them; questions are passed over.
+    /// The changes of the stored triples, a record for each step that changes them; questions are passed over.
     Changes,
 }
 
 impl Report {
-    // Whether an application and a remapping tell their change.
+    /// Whether an application and a remapping tell their change.
     pub fn telling(self) -> Telling
         ensures { result ≡ telling_of self }
     {
@@ -26,7 +26,7 @@ impl Report {
         }
     }
 
-    // How many asks were answered or records written by earlier runs, which left these counts.
+    /// How many asks were answered or records written by earlier runs, which left these counts.
     pub fn reported_before(self, earlier: Numbers) -> u64
         ensures { result ≡ reported_before self earlier }
     {
@@ -36,8 +36,8 @@ impl Report {
         }
     }
 
-    // The counts that a later run goes on with, where earlier runs left these, so many asks were answered or records written, and so many
-    // matches were delivered.
+    /// The counts that a later run goes on with, where earlier runs left these, so many asks were answered or records written, and so many
+    /// matches were delivered.
     pub fn numbers(self, earlier: Numbers, reported: u64, matched: u64) -> Numbers
         ensures { result ≡ numbers_after earlier self reported matched }
     {

@@ -12,31 +12,31 @@ use text_output::Unwritten;
 use triple_store::StoreFault;
 use wq_io::LineFault;
 
-// At which step a delivery stopped.
+/// At which step a delivery stopped.
 #[derive(Clone, Copy, Debug, PartialEq, Eq)]
 pub enum Halt {
-    // The least due event wasn't applied, and stays due; or a page wasn't remapped.
+    /// The least due event wasn't applied, and stays due; or a page wasn't remapped.
     Unapplied(StoreFault),
-    // The last event that was applied, or the last remapped page, wasn't printed wholly.
+    /// The last event that was applied, or the last remapped page, wasn't printed wholly.
     Unprinted(Unwritten),
 }
 
-// Why a run stopped that was begun, or that was to go on from a snapshot.
+/// Why a run stopped that was begun, or that was to go on from a snapshot.
 #[derive(Clone, Copy, Debug, PartialEq, Eq)]
 pub enum Stop {
-    // The line with this number, from 1, is refused.
+    /// The line with this number, from 1, is refused.
     BadLine(u64, LineCause),
-    // The input could not be read.
+    /// The input could not be read.
     ReadFault,
-    // The output could not be written.
+    /// The output could not be written.
     WriteFault,
-    // The input has more bytes than it may have.
+    /// The input has more bytes than it may have.
     TooLong,
-    // There is no room for the terms of a page.
+    /// There is no room for the terms of a page.
     StoreFull,
-    // A request for memory was refused.
+    /// A request for memory was refused.
     OutOfMemory,
-    // The line of the snapshot with this number, from 1, is refused.
+    /// The line of the snapshot with this number, from 1, is refused.
     BadSnapshot(u64),
 }
 
