@@ -2,12 +2,14 @@
 # Asks a replay while it goes on: wdq reads a named pipe, and answers each question as soon as it is there.
 #
 #   ./ask.sh pages events.jsonl .. < questions.jsonl
+#   ./ask.sh home/pages home/batches < questions.jsonl
 #
+# A folder of batches stands for its files in the order of bytes, since *.jsonl puts 000012-now.jsonl behind 000012.jsonl in most locales.
 # The events go into the pipe first, then a watermark later than all of them, so that no question misses what waits. Then each line of
 # standard input goes in. A question's answer is printed before the next line is read, so that a terminal or another program may ask.
 # The input has no end, so wdq gets the greatest --max-bytes. WDQ names the program; without it, it is this repository's wdq.
 # Status: that of wdq, 2 if it refuses a line.
-case ${1-} in -h | --help | '') sed -n '2,9s/^# \{0,1\}//p' "$0"; [ $# -gt 0 ]; exit ;; esac
+case ${1-} in -h | --help | '') sed -n '2,11s/^# \{0,1\}//p' "$0"; [ $# -gt 0 ]; exit ;; esac
 if [ ! -d "$1" ] || [ $# -lt 2 ]; then
   echo "ask.sh: a folder of pages and event files are needed; -h says more" >&2
   exit 2
@@ -15,6 +17,8 @@ fi
 wdq=${WDQ:-$(dirname "$0")/../../wdq}
 pages=$1
 shift
+LC_ALL=C
+[ ! -d "$1" ] || set -- "$1"/*.jsonl
 work=$(mktemp -d) || exit 2
 trap 'rm -rf "$work"' EXIT
 trap 'exit 130' INT TERM HUP

@@ -39,20 +39,25 @@ SECONDS_OF_SILENCE = 60
 
 
 def messages(lines):
-    """The messages of server-sent events, each with the last id so far. A message that is cut off is none."""
-    data, last_id = [], None
+    """The messages of server-sent events, each with the last id so far. A message that is cut off is none, and an error is only named."""
+    data, last_id, kind = [], None, ""
     for line in lines:
         if not line.endswith(b"\n"):
             return
-        name, _, value = line.decode(errors="replace").rstrip("\r\n").partition(":")
+        name, colon, value = line.decode(errors="replace").rstrip("\r\n").partition(":")
         value = value.removeprefix(" ")
         if name == "data":
             data.append(value)
         elif name == "id":
             last_id = value
-        elif not name and not value and data:
-            yield "\n".join(data), last_id
-            data = []
+        elif name == "event":
+            kind = value
+        elif not name and not colon:
+            if kind == "error":
+                print(f"follow_stream.py: the stream says: {' '.join(data)[:300]}", file=sys.stderr)
+            elif data:
+                yield "\n".join(data), last_id
+            data, kind = [], ""
 
 
 def event_of(message):
@@ -110,7 +115,7 @@ class Reader(threading.Thread):
     def run(self):
         pause = self.arguments.pause
         while True:
-            is_any, before = False, self.last_id
+            is_any, before, asked = False, self.last_id, 0
             try:
                 is_any = self.read_once()
             except (OSError, http.client.HTTPException) as error:
@@ -119,9 +124,14 @@ class Reader(threading.Thread):
                     self.queue.put((None, f"status {error.code}"))
                     return
                 print(f"follow_stream.py: {error}", file=sys.stderr)
+                asked = wiki.pause_after(error, 0)
+            except ValueError as error:
+                self.queue.put((None, f"no request can be made: {error}"))
+                return
             pause = self.arguments.pause if is_any else min(2 * pause, wiki.LONGEST_PAUSE)
-            print(f"follow_stream.py: the connection ended; connects again after {pause:g} s", file=sys.stderr)
-            time.sleep(pause)
+            rest = max(pause, asked)
+            print(f"follow_stream.py: the connection ended; connects again after {rest:g} s", file=sys.stderr)
+            time.sleep(rest)
 
 
 class Batches:

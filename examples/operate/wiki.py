@@ -22,6 +22,8 @@ def agent(text):
     """A user agent as Wikimedia's policy demands it: with an address or a page of whoever runs the script."""
     if "@" not in text and "http" not in text:
         raise argparse.ArgumentTypeError('names nobody: write it as "mirror/1.0 (jane@example.org)"')
+    if not (text.isascii() and text.isprintable()):
+        raise argparse.ArgumentTypeError("has characters that no header takes: write it in ASCII")
     return text
 
 
