@@ -6,13 +6,13 @@ ghost use Rattle.wq_io.specs.Streams.{IsAtEnd};
 ghost use Rattle.entity_model.specs.{Event.event_cmp, declared.event.Event.Event};
 ghost use Rattle.replay_model.specs.{Explained.is_applied, Replies.failed_events, Versions.meaning_by};
 ghost use Rattle.rising.specs.Rising.{has};
-ghost use Rattle.world.specs.{Meaning.meaning, Roomed.HasRoom};
+ghost use Rattle.world.specs.{Meaning.meaning, Roomed.HasRoom, WorldState.WorldState};
 ghost use Rattle.snapshot.specs.{File.saved_in_bytes, LineText.line_of, Whole.whole};
 ghost use Rattle.checkpoint.specs.Causes.{HasCause};
 ghost use Rattle.checkpoint.specs.Loading.{HoldsDocuments, IsReady, IsRefused, IsResting, Overfills, LoadsLine, loading_of};
 ghost use Rattle.checkpoint.specs.Saved.{AreWithin, saved_of, world_of};
 ghost use Rattle.checkpoint.specs.declared.fault.LoadFault.TheVariants.{BadLine, Full, ReadFault, TooLong};
-ghost use Rattle.checkpoint.specs.declared.loader.Stage.TheVariants.{Ended};
+ghost use Rattle.checkpoint.specs.declared.loader.Stage.TheVariants.{Ended, Unbegun};
 
 use crate::fault::LoadFault;
 use crate::loader::{Loader, Stage};
@@ -64,39 +64,64 @@ pub fn load<S: Source>(
     ensures most { S.most_faults file.new ≡ S.most_faults file.old }
 {
     let mut loader = Loader::new(alloc, keys, room)?;
+    match load_lines(alloc, file, &mut loader) {
+        Ok(numbers) => Ok(Loaded {
+            world: loader.world,
+            numbers,
+        }),
+        Err(fault) => Err(fault),
+    }
+}
+
+// Takes the lines of the file. Says the counts that go on with the world that they put together.
+fn load_lines<S: Source>(
+    alloc: Global,
+    file: &mut S,
+    loader: &mut Loader,
+) -> Result<Numbers, LoadFault>
+    requires stage { loader.old.stage ≡ Unbegun }
+    requires ready { IsReady loader.old.world loader.old.stage 0 }
+    ensures saved { IfOk result (λ numbers. IfSome (S.left file.old) (λ bytes. saved_in_bytes bytes ≡ Some (saved_of loader.new.world numbers))) }
+    ensures world { IfOk result (λ numbers. loader.new.world ≡ world_of loader.old.world.limit (saved_of loader.new.world numbers)) }
+    ensures rests { OnOk result (IsResting loader.new.world.replay.buffer) }
+    ensures applied { OnOk result ((e : Event) → has event_cmp e (failed_events loader.new.world.replay.played.side) ≡ true → is_applied loader.new.world.replay e ≡ true) }
+    ensures documents { OnOk result (HoldsDocuments loader.new.world.replay.played.records) }
+    ensures held { OnOk result (HasRoom (meaning_by meaning loader.new.world.by_two) loader.new.world.limit loader.new.world.replay.played.records) }
+    ensures counts { IfOk result AreWithin }
+    ensures whole { OnOk result (IsAtEnd (S.left file.new)) }
+    ensures fault { IfErr result (λ fault. HasCause fault loader.old.world.limit (S.left file.old) (S.faults file.old) (S.faults file.new)) }
+    ensures later { S.faults file.old ≤ S.faults file.new }
+    ensures most { S.most_faults file.new ≡ S.most_faults file.old }
+{
     let mut lines = Lines::with_limit(LONGEST_FILE, LONGEST_LINE);
     let mut line = Vec::new(alloc);
     let mut given = 0;
     let mut length = 0;
     while let Some(number) = lines.next(file, &mut line)? {
-        take_line(alloc, line.as_slice(), number, &mut loader)?;
+        take_line(alloc, line.as_slice(), number, loader)?;
         given = number;
         length = with_line(length, line.as_slice());
     }
     if lines.taken() != length {
         return Err(LoadFault::BadLine(given));
     }
-    match finish(loader, given) {
-        Ok(loaded) => Ok(loaded),
+    match numbers_at_end(loader.stage, given) {
+        Ok(numbers) => Ok(numbers),
         Err(fault) => Err(fault),
     }
 }
 
-// The world that so many lines put together, where the last one was taken.
-fn finish(loader: Loader, given: u64) -> Result<Loaded, LoadFault>
+// The counts of the head, where the last of so many lines was taken.
+fn numbers_at_end(stage: Stage, given: u64) -> Result<Numbers, LoadFault>
     requires { given < 2 ^ 63 }
-    ensures world { IfOk result (λ loaded. loaded.world ≡ loader.world) }
-    ensures numbers { IfOk result (λ loaded. loader.stage ≡ Ended loaded.numbers) }
+    ensures numbers { IfOk result (λ numbers. stage ≡ Ended numbers) }
     ensures fault { IfErr result (λ fault. fault ≡ BadLine (given + 1)) }
-    ensures short { IfErr result (λ _. whole (loading_of loader.world loader.stage given) ≡ None) }
+    ensures short { IfErr result (λ _. (w : WorldState) → whole (loading_of w stage given) ≡ None) }
 {
-    match loader.stage {
+    match stage {
         Stage::Unbegun => Err(LoadFault::BadLine(given + 1)),
         Stage::Begun(_) => Err(LoadFault::BadLine(given + 1)),
-        Stage::Ended(numbers) => Ok(Loaded {
-            world: loader.world,
-            numbers,
-        }),
+        Stage::Ended(numbers) => Ok(numbers),
     }
 }
 

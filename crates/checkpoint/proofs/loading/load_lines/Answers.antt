@@ -5,19 +5,19 @@ use Rattle.wq_io.specs.Lines.{taken}
 use Rattle.checkpoint.specs.Loading.{AreStageWithin}
 use Rattle.checkpoint.proofs.Rests.{rests_applied}
 use Rattle.checkpoint.proofs.UnderWay.{all_loaded, begins, early_stops, fault_stops, goes_on, line_stops, none_left, nothing_left, unended_stops}
-use Rattle.checkpoint.proofs.loading.load.Goals as goal
+use Rattle.checkpoint.proofs.loading.load_lines.Goals as goal
 
 pub loop-line-init : goal.loop-line-init
 loop-line-init g c = (
-  rw c.with_limit-lines.ensures (begins c.args.room (g.S.Source.left c.args.file.now) c.in_ok-loader.loader.world c.in_ok-loader.loader.stage c.in_ok-loader.ensures.fresh.0 c.in_ok-loader.ensures.fresh.1 c.in_ok-loader.ensures.limit),
+  rw c.with_limit-lines.ensures (begins c.args.loader.now.world.limit (g.S.Source.left c.args.file.now) c.args.loader.now.world c.args.loader.now.stage c.requires.stage c.requires.ready refl),
   omega arith,
   refl,
 )
 
 pub returns-in_err-number-clause-fault : goal.returns-in_err-number-clause-fault
 returns-in_err-number-clause-fault g c =
-    let p = err_from_is_err_and c.from_residual-in_err-number.result c.from_residual-in_err-number.ensures.1 in
-    rw (p.1, p.2) (fault_stops c.args.room _ _ _ _ _ _ _ c.loop-line.invariant.0 _ _ (g.S.Source.faults c.next.new.source) _ c.loop-line.invariant.1 c.in_err-number.ensures.cause)
+    let p = err_from_is_err_and c.from_residual.result c.from_residual.ensures.1 in
+    rw (p.1, p.2) (fault_stops c.args.loader.now.world.limit _ _ _ _ _ _ _ c.loop-line.invariant.0 _ _ (g.S.Source.faults c.next.new.source) _ c.loop-line.invariant.1 c.in_err-number.ensures.cause)
 
 pub returns-in_err-take_line-clause-fault : goal.returns-in_err-take_line-clause-fault
 returns-in_err-take_line-clause-fault g c =
@@ -26,7 +26,7 @@ returns-in_err-take_line-clause-fault g c =
     let number = rw c.in-Some.is at c.in_ok-number.ensures.number in
     let bad = rw c.as_slice.ensures.value at c.in_err-take_line.ensures.bad in
     let full = rw c.as_slice.ensures.value at c.in_err-take_line.ensures.full in
-    rw (p.1, p.2) (line_stops c.args.room _ _ (g.S.Source.left c.next.new.source) _ c.next.new.self _ _ _ c.in-Some.number _ c.next.new.line.items c.loop-line.invariant.0
+    rw (p.1, p.2) (line_stops c.args.loader.now.world.limit _ _ (g.S.Source.left c.next.new.source) _ c.next.new.self _ _ _ c.in-Some.number _ c.next.new.line.items c.loop-line.invariant.0
     (record { first = line; total = c.in_ok-number.ensures.length; given = sym number.1 ∙ number.0 }) (number.0 ∙ ap (λ k. k + 1) (sym c.loop-line.invariant.0.given_is)) _
     (λ k is. bad k (ap (λ fault. Err fault) is)) (λ is. full (ap (λ fault. Err fault) is))
     (λ is. c.in_err-take_line.ensures.others.0 (ap (λ fault. Err fault) is)) (λ is. c.in_err-take_line.ensures.others.1 (ap (λ fault. Err fault) is)) _ _)
@@ -37,7 +37,7 @@ loop-line-preserved g c =
     let number = rw c.in-Some.is at c.in_ok-number.ensures.number in
     let takes = rw c.as_slice.ensures.value at c.in_ok-take_line.ensures.ok in
     let longer = rw c.as_slice-in-Some.ensures.value at c.with_line-length.ensures in (
-      goes_on c.args.room _ _ (g.S.Source.left c.next.new.source) _ c.next.new.self _ _ _ _ _ c.in-Some.number _ _ c.next.new.line.items c.loop-line.invariant.0
+      goes_on c.args.loader.now.world.limit _ _ (g.S.Source.left c.next.new.source) _ c.next.new.self _ _ _ _ _ c.in-Some.number _ _ c.next.new.line.items c.loop-line.invariant.0
           (record { first = line; total = c.in_ok-number.ensures.length; given = sym number.1 ∙ number.0 }) c.in_ok-number.ensures.goes_on
           (number.0 ∙ ap (λ k. k + 1) (sym c.loop-line.invariant.0.given_is)) c.in_ok-number.ensures.ended takes c.in_ok-take_line.ensures.ready c.take_line.ensures.limit longer,
       omega (arith, c.loop-line.invariant.1, c.next.ensures.later),
@@ -49,8 +49,8 @@ returns-then-taken-length-clause-fault g c =
     let none = rw c.in_default.is at c.in_ok-number.ensures.line in
     let same = rw c.in_default.is at c.in_ok-number.ensures.number in
     let other : taken c.next.new.self ≢ c.loop-line.length = search rules in
-    unended_stops c.args.room _ (g.S.Source.left c.next.new.source) c.next.new.self _ _ _ _
-    (none_left c.args.room _ _ (g.S.Source.left c.next.new.source) _ c.next.new.self _ _ _ _ c.next.new.line.items c.loop-line.invariant.0 none.1 c.in_ok-number.ensures.length same
+    unended_stops c.args.loader.now.world.limit _ (g.S.Source.left c.next.new.source) c.next.new.self _ _ _ _
+    (none_left c.args.loader.now.world.limit _ _ (g.S.Source.left c.next.new.source) _ c.next.new.self _ _ _ _ c.next.new.line.items c.loop-line.invariant.0 none.1 c.in_ok-number.ensures.length same
     c.in_ok-number.ensures.goes_on c.in_ok-number.ensures.ended)
     (rw none.1 none.0) other 0 0
 
@@ -59,21 +59,21 @@ returns-in-Ok-clause-saved g c =
     let none = rw c.in_default.is at c.in_ok-number.ensures.line in
     let same = rw c.in_default.is at c.in_ok-number.ensures.number in
     let equal : taken c.next.new.self ≡ c.loop-line.length = search rules in
-    rw c.in-Ok.ensures.world (all_loaded c.args.room _ (g.S.Source.left c.next.new.source) c.next.new.self c.loop-line.loader.world c.loop-line.loader.stage c.in-Ok.loaded.numbers _ _
-    (none_left c.args.room _ _ (g.S.Source.left c.next.new.source) _ c.next.new.self _ _ _ _ c.next.new.line.items c.loop-line.invariant.0 none.1 c.in_ok-number.ensures.length same
+    all_loaded c.args.loader.now.world.limit _ (g.S.Source.left c.next.new.source) c.next.new.self c.loop-line.loader.world c.loop-line.loader.stage c.in-Ok.numbers _ _
+    (none_left c.args.loader.now.world.limit _ _ (g.S.Source.left c.next.new.source) _ c.next.new.self _ _ _ _ c.next.new.line.items c.loop-line.invariant.0 none.1 c.in_ok-number.ensures.length same
     c.in_ok-number.ensures.goes_on c.in_ok-number.ensures.ended)
-    (rw none.1 none.0) equal c.in-Ok.ensures.numbers)
+    (rw none.1 none.0) equal c.in-Ok.ensures.numbers
 
 pub returns-in-Ok-clause-applied : goal.returns-in-Ok-clause-applied
 returns-in-Ok-clause-applied g c =
     let ready = c.loop-line.invariant.0.ready in
-    rw c.in-Ok.ensures.world (λ e there. rests_applied c.loop-line.loader.world.replay e ready.resting (ready.failed e there))
+    λ e there. rests_applied c.loop-line.loader.world.replay e ready.resting (ready.failed e there)
 
 pub returns-in-Ok-clause-documents : goal.returns-in-Ok-clause-documents
-returns-in-Ok-clause-documents g c = rw c.in-Ok.ensures.world c.loop-line.invariant.0.ready.documents
+returns-in-Ok-clause-documents g c = c.loop-line.invariant.0.ready.documents
 
 pub returns-in-Ok-clause-held : goal.returns-in-Ok-clause-held
-returns-in-Ok-clause-held g c = rw c.in-Ok.ensures.world c.loop-line.invariant.0.ready.held
+returns-in-Ok-clause-held g c = c.loop-line.invariant.0.ready.held
 
 pub returns-in-Ok-clause-counts : goal.returns-in-Ok-clause-counts
 returns-in-Ok-clause-counts g c = subst AreStageWithin c.in-Ok.ensures.numbers c.loop-line.invariant.0.ready.within
@@ -87,7 +87,7 @@ pub returns-clause-fault : goal.returns-clause-fault
 returns-clause-fault g c =
     let none = rw c.in_default.is at c.in_ok-number.ensures.line in
     let same = rw c.in_default.is at c.in_ok-number.ensures.number in
-    rw c.in-Err.ensures.fault (early_stops c.args.room _ (g.S.Source.left c.next.new.source) c.next.new.self _ _ c.loop-line.given _
-    (none_left c.args.room _ _ (g.S.Source.left c.next.new.source) _ c.next.new.self _ _ _ _ c.next.new.line.items c.loop-line.invariant.0 none.1 c.in_ok-number.ensures.length same
+    rw c.in-Err.ensures.fault (early_stops c.args.loader.now.world.limit _ (g.S.Source.left c.next.new.source) c.next.new.self _ _ c.loop-line.given _
+    (none_left c.args.loader.now.world.limit _ _ (g.S.Source.left c.next.new.source) _ c.next.new.self _ _ _ _ c.next.new.line.items c.loop-line.invariant.0 none.1 c.in_ok-number.ensures.length same
     c.in_ok-number.ensures.goes_on c.in_ok-number.ensures.ended)
-    (rw none.1 none.0) c.in-Err.ensures.short 0 0)
+    (rw none.1 none.0) (c.in-Err.ensures.short c.loop-line.loader.world) 0 0)

@@ -1,11 +1,11 @@
 -- The lines so far were read and went into the world.
 use Rattle.std.proofs.Common.{◌≡◌, ◌-◌, ◌≤◌}
 use Rattle.checkpoint.proofs.UnderWay.{UnderWay}
-use Rattle.checkpoint.proofs.loading.load.Given as goal
+use Rattle.checkpoint.proofs.loading.load_lines.Given as goal
 
 abbrev pub invariant-loop-line : goal.invariant-loop-line
 invariant-loop-line g l =
-    UnderWay l.room (g.S.Source.left l.fn.file) l.lines (g.S.Source.left l.file) l.loader.world l.loader.stage l.given l.length
+    UnderWay l.fn.loader.world.limit (g.S.Source.left l.fn.file) l.lines (g.S.Source.left l.file) l.loader.world l.loader.stage l.given l.length
     × (g.S.Source.faults l.fn.file ≤ g.S.Source.faults l.file)
     × (g.S.Source.most_faults l.file ≡ g.S.Source.most_faults l.fn.file)
 
