@@ -1,8 +1,9 @@
 // A replay, from its beginning or from a snapshot on.
 
-ghost use Rattle.std.specs.Prelude.{◌≡◌, ◌≢◌, ◌↔◌, None, Some, IfErr, IfOk, IfSome, IsSome, IsTrue, OnOk};
+ghost use Rattle.std.specs.Prelude.{◌≡◌, ◌≢◌, ◌⊎◌, ◌↔◌, None, Some, IfErr, IfOk, IfSome, IsSome, IsTrue, OnOk};
 ghost use Rattle.std.specs.FinMap as map;
-ghost use Rattle.checkpoint.specs.Saved.{AreWithin};
+ghost use Rattle.checkpoint.specs.{Causes.HasCause, Saved.AreWithin};
+ghost use Rattle.checkpoint.specs.declared.fault.LoadFault.TheVariants.{BadLine, OutOfMemory as NoMemory};
 ghost use Rattle.replay_model.specs.ReplayState.{nothing_delivered};
 ghost use Rattle.splitting.specs.{Filling.IsReadyFor, Graphs.GraphsState, Graphs.MayFollow, Graphs.routes_of};
 ghost use Rattle.words.specs.Options.{max_terms_of};
@@ -18,7 +19,7 @@ use crate::replaying::{begin, replay_into, replay_within};
 use crate::status::Status;
 use crate::stop::Stop;
 use crate::task::Task;
-use checkpoint::{LoadFault, Loaded, load};
+use checkpoint::{LoadFault, Loaded, Numbers, load};
 use graph_routes::Routes;
 use rdf_term::OutOfMemory;
 use revisions::Revisions;
@@ -171,11 +172,7 @@ fn go_on<S: Source, R: Revisions, K: Sink, F: Sink>(
     ensures further { HaveGoneOn S.Source R.Revisions K.Sink F.Sink ports.old ports.new }
 {
     let Start { loaded, mut graphs } = start;
-    let Loaded {
-        world: restored,
-        numbers,
-    } = loaded;
-    *world = restored;
+    let numbers = put_in_place(loaded, world);
     let behind = Task {
         alloc: task.alloc,
         options: task.options,
@@ -188,7 +185,21 @@ fn go_on<S: Source, R: Revisions, K: Sink, F: Sink>(
     }
 }
 
-// Loads the snapshot, and where there are routes, makes graphs of what it holds.
+// Puts a world that was loaded in the place of this one, and says the counts that go on with it.
+fn put_in_place(loaded: Loaded, world: &mut World) -> Numbers
+    ensures world { world.new ≡ loaded.world }
+    ensures numbers { result ≡ loaded.numbers }
+{
+    let Loaded {
+        world: restored,
+        numbers,
+    } = loaded;
+    *world = restored;
+    numbers
+}
+
+// Loads the snapshot, and where there are routes, makes graphs of what it holds. If the options name a horizon, it has to be the snapshot's:
+// otherwise its head, the first line, is refused.
 fn load_start<S: Source>(
     keys: RandomState,
     task: &Task<'_>,
@@ -206,24 +217,29 @@ fn load_start<S: Source>(
     match load_snapshot(keys, task, resumed) {
         Ok(loaded) => match graphs_of(keys, task, routes, &loaded.world) {
             Ok(graphs) => Ok(Start { loaded, graphs }),
-            Err(OutOfMemory) => Err(LoadFault::OutOfMemory),
+            Err(fault) => Err(fault),
         },
         Err(fault) => Err(fault),
     }
 }
 
-// The graphs of what a world holds, where there are routes.
+// The graphs of what a world holds, where there are routes, unless the options name another horizon than the world's.
 fn graphs_of(
     keys: RandomState,
     task: &Task<'_>,
     routes: Option<Routes>,
     world: &World,
-) -> Result<Option<Graphs>, OutOfMemory>
+) -> Result<Option<Graphs>, LoadFault>
     requires ready { IsReadyFor world.now }
     requires limit { world.now.limit ≡ max_terms_of task.now.options.now }
+    ensures allowed { OnOk result (AllowsHorizon task.now.options.now world.now.replay.buffer.horizon) }
     ensures routes { IfOk result (λ graphs. routes_of graphs ≡ routes) }
     ensures follow { IfOk result (λ graphs. MayFollow graphs world.now) }
+    ensures err { IfErr result (λ fault. (fault ≡ NoMemory) ⊎ ((fault ≡ BadLine 1) × (AllowsHorizon task.now.options.now world.now.replay.buffer.horizon → ⊥))) }
 {
+    if !allows(task.options.horizon(), world.horizon()) {
+        return Err(LoadFault::BadLine(1));
+    }
     let Some(routes) = routes else {
         return Ok(None);
     };
@@ -231,26 +247,19 @@ fn graphs_of(
     Ok(Some(graphs))
 }
 
-// Loads the snapshot, with room for as many terms as the options say. If they name a horizon, it has to be the snapshot's: otherwise its
-// head, the first line, is refused.
+// Loads the snapshot, with room for as many terms as the options say.
 fn load_snapshot<S: Source>(
     keys: RandomState,
     task: &Task<'_>,
     resumed: &mut S,
 ) -> Result<Loaded, LoadFault>
     ensures ok { IfOk result (λ loaded. IsSnapshotOf (S.left resumed.old) (max_terms_of task.now.options.now) loaded.world loaded.numbers) }
-    ensures allowed { IfOk result (λ loaded. AllowsHorizon task.now.options.now loaded.world.replay.buffer.horizon) }
-    ensures err { IfErr result (λ fault. IsRefusedFor fault task.now.options.now (S.left resumed.old) (S.faults resumed.old) (S.faults resumed.new)) }
+    ensures err { IfErr result (λ fault. HasCause fault (max_terms_of task.now.options.now) (S.left resumed.old) (S.faults resumed.old) (S.faults resumed.new)) }
     ensures whole { OnOk result (IsAtEnd (S.left resumed.new)) }
     ensures further { HasReadOn S.Source resumed.old resumed.new }
 {
     match load(task.alloc, keys, task.options.max_terms(), resumed) {
-        Ok(loaded) => {
-            if !allows(task.options.horizon(), loaded.world.horizon()) {
-                return Err(LoadFault::BadLine(1));
-            }
-            Ok(loaded)
-        }
+        Ok(loaded) => Ok(loaded),
         Err(fault) => Err(fault),
     }
 }
