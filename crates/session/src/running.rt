@@ -57,12 +57,13 @@ pub fn run<S: Source, R: Revisions, K: Sink, F: Sink>(
 ) -> Status
     requires world { world.old.replay ≡ nothing_delivered }
 
-    // If the arguments aren't understood, or the text of the routes isn't, the run does nothing. The routes are read after memory is asked
-    // for, so the status may be OutOfMemory instead.
+    // If the arguments aren't understood, or the text of the routes isn't, the run reads and writes nothing. The routes are read after memory
+    // is asked for, so the status may be OutOfMemory instead.
     ensures bad_words { result ≡ Status.BadWords → IsNotUnderstood (map (λ w. string_bytes w) words.now) }
     ensures words { plan_of (map (λ w. string_bytes w) words.now) ≡ None → result ≡ Status.BadWords }
     ensures routes { IsNotUnderstood (map (λ w. string_bytes w) words.now) → (result ≡ Status.BadWords) ⊎ (result ≡ Status.OutOfMemory) }
     ensures untouched { result ≡ Status.BadWords → (ports.new ≡ ports.old) × (world.new ≡ world.old) }
+    ensures unread { IsNotUnderstood (map (λ w. string_bytes w) words.now) → ports.new ≡ ports.old }
 
     // A replay without `--resume` ends with Ok or stops for a cause. It begins with the horizon and the limit of its options, and with
     // version One of the mapping.

@@ -38,6 +38,7 @@ pub fn split<S: Source, R: Revisions, K: Sink, F: Sink>(
         (moment S.Source R.Revisions K.Sink F.Sink ports.old world.old)
         (moment S.Source R.Revisions K.Sink F.Sink ports.new world.new) }
     ensures none { ((routes : List Route) → AreRoutesIn options.now.route routes → ⊥) → (result ≡ Status.BadWords) ⊎ (result ≡ Status.OutOfMemory) }
+    ensures unread { ((routes : List Route) → AreRoutesIn options.now.route routes → ⊥) → ports.new ≡ ports.old }
     ensures limit { (result ≡ Status.BadWords) ⊎ ((world.new.limit ≡ max_terms_of options.now.replay) × HoldsWithin (max_terms_of options.now.replay) world.new) }
     ensures further { HaveGoneOn S.Source R.Revisions K.Sink F.Sink ports.old ports.new }
 {
