@@ -111,7 +111,7 @@ none_refused {G} limit bytes ds before number cause are refused = ⊎_elim
     clash none = let never : Some ds ≡ None = sym are.delivered ∙ none in cc
 
 module _ (run : Run) (before now : Moment) (bytes : List ℕ) (ds : List Delivery) (known : before.input.left ≡ Some bytes) (are : AreDeliveries (max_bytes_of run.choices) bytes ds)
-    (reads : IsStill before.input.faults now.input.faults) (writes : IsStill (start_of run before).output.faults now.stage.output.faults) (saves : IsStill before.snapshot.faults now.snapshot.faults) (room : Stopped RoomPassed run before now → ⊥) where
+    (reads : IsStill before.input.faults now.input.faults) (writes : IsStill (start_of run before).output.faults now.stage.output.faults) (saves : closes run.choices ≡ false → IsStill before.snapshot.faults now.snapshot.faults) (room : Stopped RoomPassed run before now → ⊥) where
   pub ends_well : (status : Status) → (status ≡ BadWords → ⊥) → IfSome (stop_of status) (λ stop. Stopped stop run before now) → (status ≡ Ended) ⊎ (status ≡ OutOfMemory)
   ends_well Ended understood stopped = inl refl
   ends_well BadWords understood stopped = absurd (understood refl)
@@ -119,7 +119,7 @@ module _ (run : Run) (before now : Moment) (bytes : List ℕ) (ds : List Deliver
       none_refused (max_bytes_of run.choices) bytes ds stopped.deliveries number cause are
       (at_known before.input.left bytes (λ b. IsRefusedLine (max_bytes_of run.choices) b stopped.deliveries number cause) known stopped.bad)
   ends_well ReadFault understood stopped = not_risen before.input.faults now.input.faults reads stopped.0
-  ends_well WriteFault understood stopped = ⊎_elim (λ out. not_risen (start_of run before).output.faults now.stage.output.faults writes out.0) (λ file. not_risen before.snapshot.faults now.snapshot.faults saves file.0) stopped
+  ends_well WriteFault understood stopped = ⊎_elim (λ out. not_risen (start_of run before).output.faults now.stage.output.faults writes out.0) (λ file. not_risen before.snapshot.faults now.snapshot.faults (saves file.1.saves) file.0) stopped
   ends_well TooLong understood stopped =
       let past = at_known before.input.left bytes (λ b. max_bytes_of run.choices < length b) known (more before.input.left stopped.past) in
       absurd (omega (arith, past, are.within))

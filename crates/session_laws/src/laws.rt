@@ -47,7 +47,8 @@ pub fn good_input_is_replayed()
     ensures { (run : Run) (before now : Moment) (status : Status) (bytes : List ℕ) (ds : List Delivery) →
         (status ≡ Status.BadWords → ⊥) → IfSome (stop_of status) (λ stop. Stopped stop run before now) →
         before.input.left ≡ Some bytes → AreDeliveries (max_bytes_of run.choices) bytes ds →
-        IsStill before.input.faults now.input.faults → IsStill before.stage.output.faults now.stage.output.faults → IsStill before.snapshot.faults now.snapshot.faults →
+        IsStill before.input.faults now.input.faults → IsStill before.stage.output.faults now.stage.output.faults →
+        (closes run.choices ≡ false → IsStill before.snapshot.faults now.snapshot.faults) →
         (IsFull run.environment now.stage.world now.stage.mapped → ⊥) →
         (IsFullOfStale run.environment.limit now.stage.world.played.records now.stage.mapped → ⊥) →
         (status ≡ Status.Ok) ⊎ (status ≡ Status.OutOfMemory) }
@@ -69,7 +70,8 @@ pub fn fitting_input_is_replayed()
     ensures { (run : Run) (before now : Moment) (status : Status) (contents : ℕ → Option Bytes) (bytes : List ℕ) (ds : List Delivery) →
         IsFirst (start_of run before) → (status ≡ Status.BadWords → ⊥) → IfSome (stop_of status) (λ stop. Stopped stop run before now) →
         before.input.left ≡ Some bytes → AreDeliveries (max_bytes_of run.choices) bytes ds →
-        IsStill before.input.faults now.input.faults → IsStill before.stage.output.faults now.stage.output.faults → IsStill before.snapshot.faults now.snapshot.faults →
+        IsStill before.input.faults now.input.faults → IsStill before.stage.output.faults now.stage.output.faults →
+        (closes run.choices ≡ false → IsStill before.snapshot.faults now.snapshot.faults) →
         run.environment.known ≡ Some contents → distinct (terms_there contents ds) ≤ run.environment.limit →
         (status ≡ Status.Ok) ⊎ (status ≡ Status.OutOfMemory) }
 {}
@@ -249,7 +251,8 @@ pub fn good_input_goes_on_from_saved_worlds()
         (status : Status) → ResumeEnding status later then_before then_now → (status ≡ Status.BadWords → ⊥) →
         (bytes : List ℕ) (items : List Delivery) → then_before.input.left ≡ Some bytes → AreDeliveries (max_bytes_of later.choices) bytes items →
         IsStill then_before.resumed.faults then_now.resumed.faults → IsStill then_before.input.faults then_now.input.faults →
-        IsStill then_before.stage.output.faults then_now.stage.output.faults → IsStill then_before.snapshot.faults then_now.snapshot.faults →
+        IsStill then_before.stage.output.faults then_now.stage.output.faults →
+        (closes later.choices ≡ false → IsStill then_before.snapshot.faults then_now.snapshot.faults) →
         (IsFull later.environment then_now.stage.world then_now.stage.mapped → ⊥) →
         (IsFullOfStale later.environment.limit then_now.stage.world.played.records then_now.stage.mapped → ⊥) →
         (status ≡ Status.Ok) ⊎ (status ≡ Status.OutOfMemory) }
