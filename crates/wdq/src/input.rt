@@ -1,5 +1,6 @@
 // What a run reads: standard input, and the file of the snapshot from which it goes on. Both are of one type.
 
+ghost use Rattle.std.specs.Prelude.{◌≡◌, None};
 ghost use Rattle.std.specs.Io.{ReadsAtMost};
 
 use std::io::Read;
@@ -25,7 +26,10 @@ pub struct NamedFile<R: Files> {
 
 impl<R: Files> NamedFile<R> {
     /// The file with this name, of which nothing was read yet.
-    pub fn new(runtime: R, name: String) -> NamedFile<R> {
+    pub fn new(runtime: R, name: String) -> NamedFile<R>
+        ensures named { result.name ≡ name }
+        ensures unopened { result.file ≡ None }
+    {
         NamedFile {
             runtime,
             name,

@@ -1,6 +1,6 @@
 // The file of a snapshot: it is written beside its name, and takes its name once it is whole.
 
-ghost use Rattle.std.specs.Prelude.{◌≡◌, ◌<◌, ◌≤◌, None, length, IfErr, IfOk, OnOk};
+ghost use Rattle.std.specs.Prelude.{◌≡◌, ◌++◌, ◌<◌, ◌≤◌, None, codes, length, string_bytes, IfErr, IfOk, OnOk};
 ghost use Rattle.wq_io.specs.Streams.{counted};
 
 use rdf_term::OutOfMemory;
@@ -23,7 +23,10 @@ pub struct FileNames {
 
 impl FileNames {
     /// The names of the file with this name.
-    pub fn of(alloc: Global, name: &str) -> Result<FileNames, OutOfMemory> {
+    pub fn of(alloc: Global, name: &str) -> Result<FileNames, OutOfMemory>
+        ensures name { IfOk result (λ names. string_bytes names.name ≡ name.now) }
+        ensures beside { IfOk result (λ names. string_bytes names.beside ≡ name.now ++ codes ".new") }
+    {
         let beside = format!(in alloc; "{name}.new")?;
         let name = String::from_str(alloc, name)?;
         Ok(FileNames { name, beside })
