@@ -82,6 +82,7 @@ unset WDQ_JOBS
 cd "$room/run" || exit 2
 printf '{"kind":"edit"}\n' >events.jsonl
 printf '{"ask":["?","?","?"]}\n' >asks.jsonl
+printf '{"match":[["?who","?how","?what"]]}\n' >matches.jsonl
 touch -- 'two words.jsonl'
 
 put_program() {
@@ -297,6 +298,8 @@ in_terminal "'$checkout/wdq' replay --export --resume asks.jsonl < events.jsonl"
 wants 'a file to go on from' '{"kind":"edit"}' "$shown"
 in_terminal "'$checkout/wdq' replay < asks.jsonl"
 wants 'a question' '{"ask":["?","?","?"]}' "$shown"
+in_terminal "'$checkout/wdq' replay < matches.jsonl"
+wants 'a question of several patterns' '{"match":[["?who","?how","?what"]]}' "$shown"
 in_terminal "cat asks.jsonl | '$checkout/wdq' replay"
 shows 'a pipe' 'wdq: no section was asked for (--export, --state, --side), so only answers to questions are printed'
 for number in 2 3 4 5 6 7 8; do
