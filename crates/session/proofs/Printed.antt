@@ -20,7 +20,7 @@ use Rattle.session.specs.Moment.{Beginning, IsFirst, Moment, Run, Environment, S
 use Rattle.session.specs.Sections.{sections_of}
 use Rattle.session.specs.Report.{bytes_of}
 use Rattle.session.specs.Saving.{HasSaved, numbers_of, snapshot_text}
-use Rattle.session.specs.Stop.{stop_of_unwritten}
+use Rattle.session.specs.Stop.{MayLeavePart, stop_of_unwritten}
 use Rattle.session.specs.declared.report.Report.{Report}
 use Rattle.session.specs.declared.report.Report.TheVariants.{Answers, Changes}
 use Rattle.session.specs.Taking.{judgement, replies_there}
@@ -162,3 +162,8 @@ unsaved why run numbers before now file open_still same p prints = by why cut
     by : (w : Unwritten) → IsCutShort w (snapshot_text numbers now.stage) before.snapshot file → Stopped (stop_of_unwritten w) run before (record now { snapshot = file })
     by NotWritten short = inr ((short.failed refl).1, stands NotWritten short)
     by Refused short = inr (stands Refused short)
+
+-- a run that stopped while it wrote may have left a part
+pub may_leave : (why : Unwritten) → MayLeavePart (stop_of_unwritten why)
+may_leave NotWritten = tt
+may_leave Refused = tt

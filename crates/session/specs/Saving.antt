@@ -1,5 +1,5 @@
 -- What is saved of a world at the end of an input.
-use Rattle.std.specs.Prelude.{◌≡◌, ℕ, ◌+◌, Bool, true, false, List}
+use Rattle.std.specs.Prelude.{◌≡◌, ℕ, ◌+◌, Bool, true, false, List, IfSome}
 use Rattle.wq_io.specs.Streams.{after_known}
 use Rattle.delivery.specs.declared.Delivery.{Delivery}
 use Rattle.replay_model.specs.Play.{Replies}
@@ -11,7 +11,12 @@ use Rattle.snapshot.specs.Whole.{Saved}
 use Rattle.checkpoint.specs.declared.numbers.Numbers.{Numbers}
 use Rattle.session.specs.declared.report.Report.{Report}
 use Rattle.session.specs.declared.report.Report.TheVariants.{Answers, Changes}
+use Rattle.words.specs.Options.{closes}
+use Rattle.words.specs.declared.plan.Plan.{Plan}
+use Rattle.words.specs.declared.plan.Plan.TheVariants.{Replay, Drill, Patches, Follow, Split}
+use Rattle.session.specs.declared.status.Status.{Status}
 use Rattle.session.specs.Moment.{Beginning, Stage}
+use Rattle.session.specs.Stop.{MayLeavePart, stop_of}
 
 -- the counts that a later run goes on with, where earlier runs left these, so many asks were answered or records written, and so many
 -- matches were delivered
@@ -37,3 +42,12 @@ snapshot_text numbers now = file_text (saved_at now numbers)
 abbrev pub HasSaved : Bool → List ℕ → Output → Output → Type 0
 HasSaved true text old new = new ≡ old
 HasSaved false text old new = new.bytes ≡ after_known old.bytes text
+
+-- a run with this plan and status may have written a snapshot or a part of one: `--save` was given, and the run ended well, or stopped because
+-- a write failed or memory was refused
+abbrev pub MaySave : Plan → Status → Type 0
+MaySave (Replay choices) status = (closes choices ≡ false) × IfSome (stop_of status) MayLeavePart
+MaySave (Patches choices) status = (closes choices ≡ false) × IfSome (stop_of status) MayLeavePart
+MaySave (Split choices) status = (closes choices.replay ≡ false) × IfSome (stop_of status) MayLeavePart
+MaySave (Drill size) status = ⊥
+MaySave (Follow choices) status = ⊥

@@ -1,5 +1,5 @@
 -- Why a run stopped, and the status that it has then.
-use Rattle.std.specs.Prelude.{Option, None, Some}
+use Rattle.std.specs.Prelude.{⊤, Option, None, Some}
 use Rattle.wq_io.specs.declared.lines.LineFault.{LineFault}
 use Rattle.wq_io.specs.declared.lines.LineFault.TheVariants.{ReadFault as NotRead, TooLong as PastLimit, LineLong as OverLong, OutOfMemory as NoMemory}
 use Rattle.event_line.specs.declared.faults.LineCause.{LineCause}
@@ -80,3 +80,13 @@ stop_of LimitPassed = Some TooLong
 stop_of RoomPassed = Some StoreFull
 stop_of MemoryRefused = Some OutOfMemory
 stop_of (SnapshotRefused number) = Some (BadSnapshot number)
+
+-- a run that stopped so may have written a part of a snapshot; one that stopped for another cause wrote nothing of it
+abbrev pub MayLeavePart : Stop → Type 0
+MayLeavePart WriteFault = ⊤
+MayLeavePart OutOfMemory = ⊤
+MayLeavePart ReadFault = ⊥
+MayLeavePart TooLong = ⊥
+MayLeavePart StoreFull = ⊥
+MayLeavePart (BadLine number cause) = ⊥
+MayLeavePart (BadSnapshot number) = ⊥

@@ -1,6 +1,6 @@
 // A replay: the lines of the input, the end, what is printed then, where it answers questions, and the snapshot of the world.
 
-ghost use Rattle.std.specs.Prelude.{◌≡◌, Some, IfErr, IfOk, IfSome, OnOk};
+ghost use Rattle.std.specs.Prelude.{◌≡◌, ◌⊎◌, false, Some, IfErr, IfOk, IfSome, OnOk};
 ghost use Rattle.std.specs.FinMap as map;
 ghost use Rattle.checkpoint.specs.Saved.{AreWithin};
 ghost use Rattle.drill_replay.specs.Playing.{IsByFirst};
@@ -12,8 +12,8 @@ ghost use Rattle.world.specs.Meaning.{meaning};
 ghost use Rattle.session.specs.{Answering.closing_held, Counts.HaveGoneOn};
 ghost use Rattle.session.specs.Headline.{Ending, HasPrinted, HasTakenAll, Stopped};
 ghost use Rattle.session.specs.{Moment.behind, Moment.moment, Moment.run_of, Moment.world_at_start, Reading.TakesByNeed};
-ghost use Rattle.session.specs.{Remapping.HoldsWithin, Remapping.mapped_in, Sections.sections_of, Taking.IsStanding};
-ghost use Rattle.words.specs.Options.{max_bytes_of, max_terms_of};
+ghost use Rattle.session.specs.{Remapping.HoldsWithin, Remapping.mapped_in, Sections.sections_of, Stop.MayLeavePart, Taking.IsStanding};
+ghost use Rattle.words.specs.Options.{closes, max_bytes_of, max_terms_of};
 
 use crate::context::Context;
 use crate::delivering::take_end;
@@ -55,6 +55,7 @@ pub fn replay_into<S: Source, R: Revisions, K: Sink, F: Sink>(
     ensures taken { IfSome (S.left ports.old.events) (λ bytes. TakesByNeed (max_bytes_of task.now.options.now) bytes (S.left ports.new.events) (S.last ports.old.events) (S.last ports.new.events)) }
     ensures limit { world.new.limit ≡ max_terms_of task.now.options.now }
     ensures held { HoldsWithin (max_terms_of task.now.options.now) world.new }
+    ensures unsaved { ((closes task.now.options.now ≡ false) × IfErr result MayLeavePart) ⊎ (ports.new.snapshot ≡ ports.old.snapshot) }
     ensures further { HaveGoneOn S.Source R.Revisions K.Sink F.Sink ports.old ports.new }
 {
     begin(task.options, world);
@@ -105,6 +106,7 @@ pub fn replay_within<S: Source, R: Revisions, K: Sink, F: Sink>(
     ensures taken { IfSome (S.left ports.old.events) (λ bytes. TakesByNeed (max_bytes_of task.now.options.now) bytes (S.left ports.new.events) (S.last ports.old.events) (S.last ports.new.events)) }
     ensures limit { world.new.limit ≡ max_terms_of task.now.options.now }
     ensures held { HoldsWithin (max_terms_of task.now.options.now) world.new }
+    ensures unsaved { ((closes task.now.options.now ≡ false) × IfErr result MayLeavePart) ⊎ (ports.new.snapshot ≡ ports.old.snapshot) }
     ensures further { HaveGoneOn S.Source R.Revisions K.Sink F.Sink ports.old ports.new }
 {
     let numbers = take_and_print(task, ports, world, graphs)?;

@@ -1,18 +1,18 @@
 // A replay, from its beginning or from a snapshot on.
 
-ghost use Rattle.std.specs.Prelude.{◌≡◌, ◌≢◌, ◌⊎◌, ◌↔◌, None, Some, IfErr, IfOk, IfSome, IsSome, IsTrue, OnOk};
+ghost use Rattle.std.specs.Prelude.{◌≡◌, ◌≢◌, ◌⊎◌, ◌↔◌, false, None, Some, IfErr, IfOk, IfSome, IsSome, IsTrue, OnOk};
 ghost use Rattle.std.specs.FinMap as map;
 ghost use Rattle.checkpoint.specs.{Causes.HasCause, Saved.AreWithin};
 ghost use Rattle.checkpoint.specs.declared.fault.LoadFault.TheVariants.{BadLine, OutOfMemory as NoMemory};
 ghost use Rattle.replay_model.specs.ReplayState.{nothing_delivered};
 ghost use Rattle.splitting.specs.{Filling.IsReadyFor, Graphs.GraphsState, Graphs.MayFollow, Graphs.routes_of};
-ghost use Rattle.words.specs.Options.{max_terms_of};
+ghost use Rattle.words.specs.Options.{closes, max_terms_of};
 ghost use Rattle.wq_io.specs.Streams.{IsAtEnd};
 ghost use Rattle.session.specs.{Counts.HasReadOn, Counts.HaveGoneOn, Headline.ReplayEnding};
 ghost use Rattle.session.specs.Moment.{behind, moment, no_numbers, run_of, world_at_start};
 ghost use Rattle.session.specs.Remapping.{HoldsWithin, mapped_in};
 ghost use Rattle.session.specs.Resuming.{AllowsHorizon, IsRefusedFor, IsSnapshotOf, ResumeEnding};
-ghost use Rattle.session.specs.Taking.{IsStanding};
+ghost use Rattle.session.specs.{Stop.MayLeavePart, Stop.stop_of, Taking.IsStanding};
 
 use crate::ports::Ports;
 use crate::replaying::{begin, replay_into, replay_within};
@@ -49,6 +49,7 @@ pub fn replay<S: Source, R: Revisions, K: Sink, F: Sink>(
     ensures understood { result ≢ Status.BadWords }
     ensures limit { world.new.limit ≡ max_terms_of task.now.options.now }
     ensures held { HoldsWithin (max_terms_of task.now.options.now) world.new }
+    ensures unsaved { ((closes task.now.options.now ≡ false) × IfSome (stop_of result) MayLeavePart) ⊎ (ports.new.snapshot ≡ ports.old.snapshot) }
     ensures further { HaveGoneOn S.Source R.Revisions K.Sink F.Sink ports.old ports.new }
 {
     match task.options.resume() {
@@ -88,6 +89,7 @@ fn begin_anew<S: Source, R: Revisions, K: Sink, F: Sink>(
     ensures understood { result ≢ Status.BadWords }
     ensures limit { world.new.limit ≡ max_terms_of task.now.options.now }
     ensures held { HoldsWithin (max_terms_of task.now.options.now) world.new }
+    ensures unsaved { ((closes task.now.options.now ≡ false) × IfSome (stop_of result) MayLeavePart) ⊎ (ports.new.snapshot ≡ ports.old.snapshot) }
     ensures further { HaveGoneOn S.Source R.Revisions K.Sink F.Sink ports.old ports.new }
 {
     let Ok(mut graphs) = new_graphs(keys, task, routes) else {
@@ -132,6 +134,7 @@ fn resume<S: Source, R: Revisions, K: Sink, F: Sink>(
     ensures understood { result ≢ Status.BadWords }
     ensures limit { world.new.limit ≡ max_terms_of task.now.options.now }
     ensures held { HoldsWithin (max_terms_of task.now.options.now) world.new }
+    ensures unsaved { ((closes task.now.options.now ≡ false) × IfSome (stop_of result) MayLeavePart) ⊎ (ports.new.snapshot ≡ ports.old.snapshot) }
     ensures further { HaveGoneOn S.Source R.Revisions K.Sink F.Sink ports.old ports.new }
 {
     match load_start(keys, task, routes, &mut ports.resumed) {
@@ -169,6 +172,7 @@ fn go_on<S: Source, R: Revisions, K: Sink, F: Sink>(
     ensures understood { result ≢ Status.BadWords }
     ensures limit { world.new.limit ≡ max_terms_of task.now.options.now }
     ensures held { HoldsWithin (max_terms_of task.now.options.now) world.new }
+    ensures unsaved { ((closes task.now.options.now ≡ false) × IfSome (stop_of result) MayLeavePart) ⊎ (ports.new.snapshot ≡ ports.old.snapshot) }
     ensures further { HaveGoneOn S.Source R.Revisions K.Sink F.Sink ports.old ports.new }
 {
     let Start { loaded, mut graphs } = start;

@@ -6,7 +6,7 @@ ghost use Rattle.drill_replay.specs.Playing.{IsByFirst};
 ghost use Rattle.session.specs.{declared.report.Report.TheVariants.Answers, declared.report.Report.TheVariants.Changes, Counts.HaveGoneOn};
 ghost use Rattle.session.specs.{Drilling.DrillEnding, Records.FollowEnding, Headline.ReplayEnding};
 ghost use Rattle.session.specs.{Moment.moment, Moment.run_of, Moment.stage, Moment.world_at_start, Remapping.HoldsWithin};
-ghost use Rattle.session.specs.{Resuming.ResumeEnding, Room.limit_of_plan, Understood.IsNotUnderstood};
+ghost use Rattle.session.specs.{Resuming.ResumeEnding, Room.limit_of_plan, Saving.MaySave, Understood.IsNotUnderstood};
 ghost use Rattle.following.specs.Following.{follow_moment};
 ghost use Rattle.graph_routes.specs.{declared.routes.Route.Route, Routes.AreRoutesIn};
 ghost use Rattle.words.specs.{Options.Choices, Options.FollowChoices, Options.SplitChoices, Plan.plan_of};
@@ -119,6 +119,10 @@ pub fn run<S: Source, R: Revisions, K: Sink, F: Sink>(
     // Once the arguments are understood, the world ends with the plan's limit, however the run ends, and what it holds stays within it.
     ensures limit { (plan : ThePlan) → plan_of (map (λ w. string_bytes w) words.now) ≡ Some plan →
         (result ≡ Status.BadWords) ⊎ ((world.new.limit ≡ limit_of_plan plan) × HoldsWithin (limit_of_plan plan) world.new) }
+
+    // Nothing is written into the snapshot without `--save`, nor by a run that stops for another cause than a failed write or refused memory.
+    ensures unsaved { (plan : ThePlan) → plan_of (map (λ w. string_bytes w) words.now) ≡ Some plan →
+        MaySave plan result ⊎ (ports.new.snapshot ≡ ports.old.snapshot) }
 
     // The contents of the revisions stay the same, and failure counters never decrease.
     ensures further { HaveGoneOn S.Source R.Revisions K.Sink F.Sink ports.old ports.new }

@@ -1,10 +1,10 @@
 -- The end, with a snapshot or without one.
-use Rattle.std.proofs.Common.{◌∙◌, sym, ap}
+use Rattle.std.proofs.Common.{◌∙◌, sym, ap, inl}
 use Rattle.std.proofs.lemmas.Result.{err_from_is_err_and}
 use Rattle.splitting.specs.Graphs.{routes_of}
 use Rattle.text_output.specs.Printing.{output}
 use Rattle.session.specs.Moment.{Moment, Run, behind, moment, run_of}
-use Rattle.session.proofs.Printed.{ending_closed, ending_saved, unsaved}
+use Rattle.session.proofs.Printed.{ending_closed, ending_saved, may_leave, unsaved}
 use Rattle.session.proofs.replaying.replay_within.Goals as goal
 
 pub returns-then-closes-clause-ok : goal.returns-then-closes-clause-ok
@@ -28,3 +28,11 @@ returns-in_err-save-clause-err g c =
     let between : Moment = moment g.S.Source g.R.Revisions g.K.Sink g.F.Sink c.take_and_print.new.ports c.take_and_print.new.world in
     let p = err_from_is_err_and c.from_residual-in_err-save.result c.from_residual-in_err-save.ensures.1 in
     rw (p.1, p.2) (unsaved _ run _ before between _ (sym c.closes.ensures ∙ c.if-closes.false) (ap (output g.F.Sink) c.in_ok-numbers.ensures.snapshot) c.in_ok-numbers.ensures.ok c.in_err-save.ensures)
+
+pub returns-clause-unsaved : goal.returns-clause-unsaved
+returns-clause-unsaved g c = inl (sym c.closes.ensures ∙ c.if-closes.false, tt)
+
+pub returns-in_err-save-clause-unsaved : goal.returns-in_err-save-clause-unsaved
+returns-in_err-save-clause-unsaved g c =
+    let p = err_from_is_err_and c.from_residual-in_err-save.result c.from_residual-in_err-save.ensures.1 in
+    rw (p.1, p.2) (inl (sym c.closes.ensures ∙ c.if-closes.false, may_leave _))

@@ -17,3 +17,6 @@ returns-in_default-clause-ending g c = rw c.begin.ensures (record {
 
 pub returns-in_default-clause-held : goal.returns-in_default-clause-held
 returns-in_default-clause-held g c = rw c.begin.ensures (nothing_held _ nothing_played.records _ (len-empty _ _))
+
+pub returns-clause-unsaved : goal.returns-clause-unsaved
+returns-clause-unsaved g c = rw c.status.ensures.stops c.in-Err.ensures.unsaved

@@ -1,5 +1,5 @@
 -- What a replay, a drill and a follower leave, by the plan that was read.
-use Rattle.std.proofs.Common.{◌≡◌, ◌∙◌, sym, ap, List, None, Some, IsSome, inr, refl}
+use Rattle.std.proofs.Common.{◌≡◌, ◌⊎◌, ◌∙◌, sym, ap, List, None, Some, IsSome, inr, refl}
 use Rattle.graph_routes.specs.declared.routes.Route.{Route}
 use Rattle.graph_routes.specs.Routes.{AreRoutesIn}
 use Rattle.words.specs.declared.plan.Plan.TheVariants.{Replay, Drill, Follow}
@@ -13,6 +13,7 @@ use Rattle.session.specs.Moment.{moment, run_of, stage, world_at_start}
 use Rattle.session.specs.Remapping.{HoldsWithin}
 use Rattle.session.specs.Resuming.{ResumeEnding}
 use Rattle.session.specs.Room.{limit_of_plan}
+use Rattle.session.specs.Saving.{MaySave}
 use Rattle.world.specs.WorldState.{WorldState}
 use Rattle.drill_replay.specs.Playing.{IsByFirst}
 use Rattle.session.proofs.Ongoing.{none_gone, written_on}
@@ -41,6 +42,11 @@ pub returns-in-Some-Replay-clause-limit : goal.returns-in-Some-Replay-clause-lim
 returns-in-Some-Replay-clause-limit g c = λ the plan.
     inr (for_plan (λ x. (c.replay.new.world.limit ≡ limit_of_plan x) × HoldsWithin (limit_of_plan x) c.replay.new.world)
     (Replay c.in-Some-Replay.options) the (ap Some (sym c.in-Some-Replay.field-0-is) ∙ c.in-Some-Replay.ensures.value ∙ plan) (c.replay.ensures.limit, c.replay.ensures.held))
+
+pub returns-in-Some-Replay-clause-unsaved : goal.returns-in-Some-Replay-clause-unsaved
+returns-in-Some-Replay-clause-unsaved g c = λ the plan.
+    for_plan (λ x. MaySave x c.replay.result ⊎ (c.replay.new.ports.snapshot ≡ c.args.ports.now.snapshot))
+    (Replay c.in-Some-Replay.options) the (ap Some (sym c.in-Some-Replay.field-0-is) ∙ c.in-Some-Replay.ensures.value ∙ plan) c.replay.ensures.unsaved
 
 -- ---- a split
 
