@@ -6,10 +6,11 @@
 use anyhow::{Context, Result, bail};
 use entity_model::{EntityId, Event, Kind, Unfit};
 use entity_state::Mode;
-use rdf_term::{Pattern, Term, Triple, TripleSet, read_term};
+use rdf_term::{Pattern, Term, Triple, TripleSet};
 use side_output::{Cause, Entry};
 use std::alloc::Global;
 use std::str;
+use term_reading::read_term;
 use world::World;
 
 /// The entities with what the events say of them and what is held, a line each.

@@ -2,9 +2,9 @@
 use Rattle.std.proofs.Common.{◌≡◌, ◌↔◌, ℕ, List, Option, Some, None, Result, Ok, Err, IfOk, refl, sym}
 use Rattle.base.specs.declared.memory.OutOfMemory.{OutOfMemory}
 use Rattle.rdf_term.specs.declared.term.Term.{Term}
-use Rattle.rdf_term.specs.Reader.{read}
-use Rattle.rdf_term.specs.Written.{IsWritten}
-use Rattle.rdf_term.proofs.Reading.{reads}
+use Rattle.term_reading.specs.Reader.{read}
+use Rattle.term_reading.specs.Written.{IsWritten}
+use Rattle.term_reading.proofs.Reading.{reads}
 
 -- what is read where nothing is found
 none_read : (text : List ℕ) (term : Option Term) → read text ≡ term → ((t : Term) → IsWritten text t → None ≡ Some t) → None ≡ term

@@ -6,7 +6,7 @@ use Rattle.serde_json.specs.Find.{get, as_str, as_number, as_u64, as_array}
 use Rattle.serde_json.specs.Read.{read}
 use Rattle.rdf_term.specs.declared.term.Term.{Term}
 use Rattle.rdf_term.specs.declared.pattern.Pattern.{Pattern}
-use Rattle.rdf_term.specs.Reader.{read as term_of}
+use Rattle.term_reading.specs.Reader.{read as term_of}
 use Rattle.entity_model.specs.declared.id.EntityId.{EntityId}
 use Rattle.entity_model.specs.declared.event.Event.{Event}
 use Rattle.entity_model.specs.declared.event.Kind.{Kind}

@@ -2,7 +2,7 @@
 
 ghost use Rattle.std.specs.Prelude.{◌≡◌, ◌⊎◌, None, Some, MatchResult, IfOk};
 ghost use Rattle.serde_json.specs.View.{view};
-ghost use Rattle.rdf_term.specs.Reader.{read as term_of};
+ghost use Rattle.term_reading.specs.Reader.{read as term_of};
 ghost use Rattle.event_line.specs.Line.{Answers, AnswersPart, data_of, delivery_in, else_cause, event_in, watermark_in, ask_in, mapping_in, match_in, version_of, pattern_of, pattern_with, wanted_in, kind_named, kind_name, entity_of, rev_of, time_at, whole_kind};
 ghost use Rattle.event_line.specs.declared.faults.DeliveryFault.TheVariants.{Bad as Refused, OutOfMemory as NoMemory};
 ghost use Rattle.event_line.specs.declared.faults.LineCause.TheVariants.{NotJson as NoJson};
@@ -13,9 +13,10 @@ use crate::query::query;
 use crate::time;
 use delivery::Delivery;
 use entity_model::{EntityId, Event, Kind, MappingVersion};
-use rdf_term::{OutOfMemory, Pattern, Term, read_term};
+use rdf_term::{OutOfMemory, Pattern, Term};
 use serde_json::Value;
 use std::alloc::Global;
+use term_reading::read_term;
 
 /// What `kind` says of an event. Of a reconciliation, `mode` says the rest.
 #[derive(Clone, Copy, PartialEq, Eq, Debug)]

@@ -5,10 +5,8 @@ use Rattle.std.specs.Ordering.{ordering_then, nat_cmp}
 use Rattle.std.proofs.lemmas.Bool.{cases_eq, ne_eqb}
 use Rattle.std.proofs.lemmas.Bool.Decides.{nat_tests}
 use Rattle.rdf_term.specs.Order.{bytes_cmp}
-use Rattle.rdf_term.specs.declared.content.Enclosure.TheVariants.{Quotes}
 use Rattle.rdf_term.specs.Text.{escaped, escaped_byte}
 use Rattle.rdf_term.specs.Undo.{byte_of}
-use Rattle.rdf_term.specs.Written.{letter_char}
 
 -- the byte is written as it is
 pub record Stands (x : ℕ) : Type 0 where
@@ -23,16 +21,15 @@ pub record Escapes (x : ℕ) : Type 0 where
   pub letter : ℕ
   pub is : escaped_byte x ≡ 92 ∷ letter ∷ []
   pub byte : byte_of letter ≡ x
-  pub meant : letter_char Quotes letter ≡ Some x
   pub low : x < 128
   pub letter_low : letter < 128
 
 pub kind : (x : ℕ) → Stands x ⊎ Escapes x
 kind x =
-    ⊎_elim (λ e. inr (record { letter = 34; is = ap escaped_byte e; byte = sym e; meant = ap (λ b. Some b) (sym e); low = omega arith; letter_low = omega arith }))
-    (λ a. ⊎_elim (λ e. inr (record { letter = 92; is = ap escaped_byte e; byte = sym e; meant = ap (λ b. Some b) (sym e); low = omega arith; letter_low = omega arith }))
-    (λ b. ⊎_elim (λ e. inr (record { letter = 110; is = ap escaped_byte e; byte = sym e; meant = ap (λ b. Some b) (sym e); low = omega arith; letter_low = omega arith }))
-    (λ c. ⊎_elim (λ e. inr (record { letter = 114; is = ap escaped_byte e; byte = sym e; meant = ap (λ b. Some b) (sym e); low = omega arith; letter_low = omega arith }))
+    ⊎_elim (λ e. inr (record { letter = 34; is = ap escaped_byte e; byte = sym e; low = omega arith; letter_low = omega arith }))
+    (λ a. ⊎_elim (λ e. inr (record { letter = 92; is = ap escaped_byte e; byte = sym e; low = omega arith; letter_low = omega arith }))
+    (λ b. ⊎_elim (λ e. inr (record { letter = 110; is = ap escaped_byte e; byte = sym e; low = omega arith; letter_low = omega arith }))
+    (λ c. ⊎_elim (λ e. inr (record { letter = 114; is = ap escaped_byte e; byte = sym e; low = omega arith; letter_low = omega arith }))
     (λ d. inl (record { is = rw (ne_eqb x 34 a, ne_eqb x 92 b, ne_eqb x 10 c, ne_eqb x 13 d) refl; not_quote = a; not_backslash = b; not_lf = c; not_cr = d }))
     (cases_eq x 13)) (cases_eq x 10)) (cases_eq x 92)) (cases_eq x 34)
 

@@ -1,14 +1,9 @@
 pub mod Appending
-pub mod Contents
 pub mod Escapes
 pub mod FitTerms
-pub mod Found
 pub mod HighBytes
 pub mod IriChars
 pub mod Members
-pub mod Pieces
-pub mod ReadBack
-pub mod Reading
 pub mod Tags
 pub mod Texts
 pub mod Unescaped

@@ -1,22 +1,8 @@
--- Small facts that readers of labels and of first bytes need.
-use Rattle.std.proofs.Common.{◌≡◌, ℕ, ◌==◌, ◌<◌, ◌≤◌, Bool, false, List, [], ◌∷◌, ◌++◌, None, length, refl, arith, nat_lt}
+-- A small fact that readers of words need.
+use Rattle.std.proofs.Common.{◌≡◌, ℕ, ◌==◌, Bool, false, List, [], ◌∷◌, length, refl}
 use Rattle.std.specs.List.{list_all}
-use Rattle.std.proofs.lemmas.Bool.{le-ltb, ltb-false}
-use Rattle.std.proofs.lemmas.Str.{length-encode, len_utf8_bounds}
-use Rattle.rising.specs.Rising.{Each}
 use Rattle.rdf_term.specs.Grammar.{is_word}
-use Rattle.rdf_term.specs.Reader.{split_ascii}
-use Rattle.rdf_term.proofs.HighBytes.{encode_high}
-use lib.Utf8.{encode}
 
 pub is_word_filled : (test : ℕ → Bool) (xs : List ℕ) → (length xs == 0) ≡ false → is_word test xs ≡ list_all test xs
 is_word_filled test [] h = cc
 is_word_filled test (x ∷ xs) h = refl
-
-high_first : (bs rest : List ℕ) → 0 < length bs → Each (λ b. 128 ≤ b) bs → split_ascii (bs ++ rest) ≡ None
-high_first [] rest l h = absurd (omega arith)
-high_first (b ∷ bs) rest l h = rw (le-ltb b 128 h.0) refl
-
--- no ASCII byte begins a character beyond ASCII
-pub split_ascii_high : (c : ℕ) (rest : List ℕ) → nat_lt c 128 ≡ false → split_ascii (encode c ++ rest) ≡ None
-split_ascii_high c rest h = high_first (encode c) rest (omega (arith, length-encode c, len_utf8_bounds c)) (encode_high c (ltb-false c 128 h))

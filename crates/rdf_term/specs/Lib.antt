@@ -3,9 +3,7 @@ pub mod Fit
 pub mod Grammar
 pub mod Order
 pub mod Pattern
-pub mod Reader
 pub mod TagReader
 pub mod Text
 pub mod Triple
 pub mod Undo
-pub mod Written

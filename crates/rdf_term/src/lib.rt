@@ -1,19 +1,16 @@
 //! RDF terms and triples.
 //!
 //! `term` and `triple` have the values of RDF, `write` and `escape` their canonical texts in N-Triples, `order` the order by those
-//! texts, `triple_set` the set that the order makes, and `pattern` the pattern that triples are asked for by. `read`, `content`,
-//! `label` and `tag` read terms by the grammar of N-Triples, and `tag` and `percent` make fit terms of any texts. `laws` has what
-//! holds of the definitions themselves. The texts and lists of the crate `base`, and its fault, are named here again.
+//! texts, `triple_set` the set that the order makes, and `pattern` the pattern that triples are asked for by. `tag` and `percent` make
+//! fit terms of any texts, by the grammar of N-Triples; the crate `term_reading` reads terms by it. `laws` has what holds of the order
+//! itself. The texts and lists of the crate `base`, and its fault, are named here again.
 #![tactic(auto)]
 
-mod content;
 mod escape;
-mod label;
 mod laws;
 mod order;
 mod pattern;
 mod percent;
-mod read;
 mod tag;
 mod term;
 mod triple;
@@ -21,13 +18,10 @@ mod triple_set;
 mod write;
 
 pub use base::{CowText, List, OutOfMemory, Text};
-pub use laws::{
-    canonical_text_reads_back, reading_is_by_the_grammar, sorted_triples_are_the_triples,
-};
+pub use laws::sorted_triples_are_the_triples;
 pub use order::{compare, compare_terms};
 pub use pattern::Pattern;
-pub use percent::{iri, is_iri};
-pub use read::read_term;
+pub use percent::{iri, is_iri, is_iri_char};
 pub use tag::{is_tag, tagged};
 pub use term::Term;
 pub use triple::Triple;

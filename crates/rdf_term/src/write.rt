@@ -48,7 +48,7 @@ pub fn write_triple(triple: &Triple, out: &mut Vec<u8>) -> Result<(), OutOfMemor
 }
 
 // Appends the triple's line; after `OutOfMemory` a part of it may stand there.
-#[tactic(auto, using(base::proofs::Appending::still_front, std::proofs::lemmas::List::append_assoc, crate::proofs::Utf8Texts::line_utf8))]
+#[tactic(auto, using(crate::proofs::Utf8Texts::line_utf8))]
 fn append_triple(triple: &Triple, out: &mut Vec<u8>) -> Result<(), OutOfMemory>
     ensures text { Appends out.old.items out.new.items (triple_text triple.now) result }
     ensures utf8 { OnOk result (IsUtf8 (triple_text triple.now)) }
@@ -84,7 +84,6 @@ fn append_term(term: &Term, out: &mut Vec<u8>) -> Result<(), OutOfMemory>
 }
 
 // Appends an IRI in its brackets.
-#[tactic(auto, using(crate::proofs::Utf8Texts::iri_utf8))]
 fn append_iri(iri: &str, out: &mut Vec<u8>) -> Result<(), OutOfMemory>
     ensures text { Appends out.old.items out.new.items (in_brackets iri.now) result }
     ensures utf8 { IsUtf8 (in_brackets iri.now) }
@@ -95,7 +94,6 @@ fn append_iri(iri: &str, out: &mut Vec<u8>) -> Result<(), OutOfMemory>
 }
 
 // Appends a blank node by its label.
-#[tactic(auto, using(crate::proofs::Utf8Texts::blank_utf8))]
 fn append_blank(label: &str, out: &mut Vec<u8>) -> Result<(), OutOfMemory>
     ensures text { Appends out.old.items out.new.items (95 ∷ 58 ∷ label.now) result }
     ensures utf8 { IsUtf8 (95 ∷ 58 ∷ label.now) }
@@ -105,7 +103,6 @@ fn append_blank(label: &str, out: &mut Vec<u8>) -> Result<(), OutOfMemory>
 }
 
 // Appends a literal with a language.
-#[tactic(auto, using(crate::proofs::Utf8Texts::lang_utf8))]
 fn append_lang(text: &str, tag: &str, out: &mut Vec<u8>) -> Result<(), OutOfMemory>
     ensures text { Appends out.old.items out.new.items (quoted text.now (64 ∷ tag.now)) result }
     ensures utf8 { IsUtf8 (quoted text.now (64 ∷ tag.now)) }
@@ -116,7 +113,6 @@ fn append_lang(text: &str, tag: &str, out: &mut Vec<u8>) -> Result<(), OutOfMemo
 }
 
 // Appends a literal of another datatype than that of plain ones.
-#[tactic(auto, using(crate::proofs::Utf8Texts::typed_utf8))]
 fn append_typed(text: &str, datatype: &str, out: &mut Vec<u8>) -> Result<(), OutOfMemory>
     ensures text { Appends out.old.items out.new.items (quoted text.now (94 ∷ 94 ∷ in_brackets datatype.now)) result }
     ensures utf8 { IsUtf8 (quoted text.now (94 ∷ 94 ∷ in_brackets datatype.now)) }
@@ -127,7 +123,6 @@ fn append_typed(text: &str, datatype: &str, out: &mut Vec<u8>) -> Result<(), Out
 }
 
 /// Appends the text in its quotes, with its escapes; after `OutOfMemory` a part of it may stand there.
-#[tactic(auto, using(crate::proofs::Utf8Texts::plain_utf8))]
 pub fn write_quoted(text: &str, out: &mut Vec<u8>) -> Result<(), OutOfMemory>
     ensures text { Appends out.old.items out.new.items (quoted text.now []) result }
     ensures utf8 { IsUtf8 (quoted text.now []) }
@@ -150,7 +145,6 @@ fn append_escaped(text: &[u8], out: &mut Vec<u8>) -> Result<(), OutOfMemory>
 }
 
 // Appends each byte of a text as it stands between the quotes.
-#[tactic(auto, using(base::proofs::Appending::still_front))]
 fn append_each(text: &[u8], out: &mut Vec<u8>) -> Result<(), OutOfMemory>
     ensures { Appends out.old.items out.new.items (escaped text.now) result }
 {

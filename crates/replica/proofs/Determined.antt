@@ -6,9 +6,9 @@ use Rattle.std.proofs.lemmas.Fmt.{decimal_injective}
 use Rattle.rdf_term.specs.declared.term.Term.{Term}
 use Rattle.rdf_term.specs.declared.triple.Triple.{Triple}
 use Rattle.rdf_term.specs.Fit.{is_fit}
-use Rattle.rdf_term.specs.Reader.{read}
+use Rattle.term_reading.specs.Reader.{read}
 use Rattle.rdf_term.specs.Text.{term_text}
-use Rattle.rdf_term.proofs.ReadBack.{reads_back}
+use Rattle.term_reading.proofs.ReadBack.{reads_back}
 use Rattle.replica.specs.declared.head.Head.{Head}
 use Rattle.replica.specs.declared.reader.Begun.{Begun}
 use Rattle.replica.specs.declared.record.PatchRecord.{PatchRecord}

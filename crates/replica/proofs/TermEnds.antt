@@ -14,7 +14,7 @@ use Rattle.rdf_term.specs.declared.tag.TagState.{TagState}
 use Rattle.rdf_term.specs.declared.tag.TagState.TheVariants.{Start, First, Dash, Later}
 use Rattle.rdf_term.specs.Fit.{is_fit}
 use Rattle.rdf_term.specs.Grammar.{is_iri, is_iri_char, is_tag, is_word}
-use Rattle.rdf_term.specs.Reader.{with_front}
+use Rattle.term_reading.specs.Reader.{with_front}
 use Rattle.rdf_term.specs.TagReader.{is_rest_of_tag, tag_state_after}
 use Rattle.rdf_term.specs.Text.{escaped, in_brackets, quoted, term_text}
 use Rattle.rdf_term.proofs.Escapes.{kind}

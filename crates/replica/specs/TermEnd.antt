@@ -1,6 +1,6 @@
 -- Where a term ends in a line: at the first space that isn't between quotes.
 use Rattle.std.specs.Prelude.{ℕ, List, [], ◌∷◌, ◌==◌, if◌then◌else◌, Option, None, Some}
-use Rattle.rdf_term.specs.Reader.{with_front}
+use Rattle.term_reading.specs.Reader.{with_front}
 use Rattle.replica.specs.declared.term_end.TermState.{TermState}
 use Rattle.replica.specs.declared.term_end.TermState.TheVariants.{Outside, Quoted, Escaped}
 

@@ -5,8 +5,9 @@ ghost use Rattle.rdf_term.specs.{declared.term.Term.Term as TheTerm, declared.tr
 ghost use Rattle.replica.specs.TripleLine.{AreTermTexts, IsTermText, IsTripleLine};
 
 use crate::term_end::split_term;
-use rdf_term::{OutOfMemory, Term, Triple, read_term, write_term};
+use rdf_term::{OutOfMemory, Term, Triple, write_term};
 use std::alloc::Global;
+use term_reading::read_term;
 
 // The most bytes that the canonical text of a term may have.
 const LONGEST_TERM: usize = 33_554_432;

@@ -6,7 +6,7 @@ use Rattle.slab.specs.Slab.{get, slab_len}
 pub use Rattle.rising.specs.Counting.{one_if}
 use Rattle.rdf_term.specs.declared.term.Term.{Term}
 use Rattle.rdf_term.specs.Fit.{IsFitAndShort}
-use Rattle.rdf_term.specs.Reader.{read}
+use Rattle.term_reading.specs.Reader.{read}
 use Rattle.rdf_term.specs.Text.{term_text}
 use Rattle.text_region.specs.declared.piece.Piece.{Piece}
 use Rattle.text_region.specs.Region.{Texts, bytes_of, same_piece}

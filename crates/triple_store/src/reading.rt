@@ -5,8 +5,9 @@ ghost use Rattle.rdf_term.specs.Undo.{undo};
 ghost use Rattle.term_pool.specs.Pool.{IsCanonical};
 ghost use Rattle.triple_store.specs.Slots.{HasCanonicalTexts, triple_of};
 
-use rdf_term::{OutOfMemory, Term, Triple, read_term};
+use rdf_term::{OutOfMemory, Term, Triple};
 use std::alloc::Global;
+use term_reading::read_term;
 use triple_texts::TripleText;
 
 // The triple of its texts.

@@ -6,11 +6,12 @@ use entity_json::document;
 use entity_model::{Document, EntityId, MappingVersion};
 use entity_rdf::{direct_texts, direct_triples, dump_triples};
 use munger::munge;
-use rdf_term::{List, Term, Triple, TripleSet, read_term, write_triple};
+use rdf_term::{List, Term, Triple, TripleSet, write_triple};
 use std::alloc::Global;
 use std::process::Abort;
 use std::str;
 use std::test::Fail;
+use term_reading::read_term;
 use triple_sink::Setting;
 use triple_texts::{TripleText, TripleTexts};
 

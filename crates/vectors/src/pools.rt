@@ -4,12 +4,13 @@ ghost use Rattle.std.specs.Prelude.{IfSome, OnOk};
 ghost use Rattle.rdf_term.specs.Fit.{IsFitAndShort};
 ghost use Rattle.term_pool.specs.Pool.{LiesIn};
 
-use rdf_term::{Term, read_term, write_term};
+use rdf_term::{Term, write_term};
 use std::alloc::Global;
 use std::hash::RandomState;
 use std::process::Abort;
 use std::test::Fail;
 use term_pool::{Pool, PoolFault};
+use term_reading::read_term;
 use text_region::Region;
 
 // For a pool of two terms at most: one more use of a term or one less, how many terms are there then, or that it is full, and whether the

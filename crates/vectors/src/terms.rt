@@ -1,10 +1,11 @@
 // Terms that are made of texts which may not stand as they are, and copies of terms.
 
-use rdf_term::{Term, iri, read_term, tagged, write_term};
+use rdf_term::{Term, iri, tagged, write_term};
 use std::alloc::Global;
 use std::process::Abort;
 use std::str;
 use std::test::Fail;
+use term_reading::read_term;
 
 // A text, and the IRI that is made of it: what may not stand in an IRI is percent-encoded, and all else stays.
 const IRIS: &str = "a b => <a%20b>

@@ -1,6 +1,6 @@
 -- What is split is split of the bytes from the index on.
 use Rattle.std.proofs.Common.{◌≡◌, take, drop}
-use Rattle.rdf_term.specs.Reader.{with_front}
+use Rattle.term_reading.specs.Reader.{with_front}
 use Rattle.replica.specs.declared.term_end.TermState.TheVariants.{Outside}
 use Rattle.replica.specs.TermEnd.{split_term}
 use Rattle.replica.proofs.term_end.split_at_space.Given as goal

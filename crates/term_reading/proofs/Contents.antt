@@ -4,13 +4,13 @@ use Rattle.std.specs.Char.{is_digit}
 use Rattle.std.proofs.lemmas.Bool.{cases_lt, le-ltb, ne_eqb}
 use Rattle.std.proofs.lemmas.Str.{encode_ascii, length-encode, len_utf8_bounds}
 use Rattle.rising.specs.Rising.{Each}
-use Rattle.rdf_term.specs.declared.content.Enclosure.{Enclosure}
-use Rattle.rdf_term.specs.declared.content.Enclosure.TheVariants.{Brackets, Quotes}
-use Rattle.rdf_term.specs.declared.content.State.{State}
-use Rattle.rdf_term.specs.declared.content.State.TheVariants.{Between, Backslash, Digits}
-use Rattle.rdf_term.specs.declared.content.Effect.{Effect}
-use Rattle.rdf_term.specs.declared.content.Effect.TheVariants.{Close, Refuse, Go, Keep, Put}
-use Rattle.rdf_term.specs.Reader.{step, content_of, with_front, follow}
+use Rattle.term_reading.specs.declared.content.Enclosure.{Enclosure}
+use Rattle.term_reading.specs.declared.content.Enclosure.TheVariants.{Brackets, Quotes}
+use Rattle.term_reading.specs.declared.content.State.{State}
+use Rattle.term_reading.specs.declared.content.State.TheVariants.{Between, Backslash, Digits}
+use Rattle.term_reading.specs.declared.content.Effect.{Effect}
+use Rattle.term_reading.specs.declared.content.Effect.TheVariants.{Close, Refuse, Go, Keep, Put}
+use Rattle.term_reading.specs.Reader.{step, content_of, with_front, follow}
 use Rattle.rdf_term.proofs.IriChars.{is_iri_char-high}
 use Rattle.rdf_term.proofs.HighBytes.{encode_high}
 use lib.Utf8.{encode}

@@ -1,20 +1,20 @@
 -- Reading the canonical text of a fit term gives the term, and what is read is fit.
-use Rattle.std.proofs.Common.{◌≡◌, ℕ, ◌≤◌, true, false, not, ◌&&◌, List, [], ◌∷◌, Option, Some, None, Result, Ok, Err, IfOk, IfSome, refl, sym, ◌∙◌, subst, ⊎_elim}
+use Rattle.std.proofs.Common.{◌≡◌, ℕ, ◌≤◌, true, false, not, ◌&&◌, List, [], ◌∷◌, Option, Some, None, Result, Ok, Err, IfOk, IfSome, refl, sym, ap, ◌∙◌, subst, ⊎_elim}
 use Rattle.std.specs.Str.{bytes_eq}
-use Rattle.std.proofs.lemmas.Bool.{cases_Bool, cases_lt, ne_eqb, and_parts, and_from, not-true}
+use Rattle.std.proofs.lemmas.Bool.{cases_Bool, cases_eq, cases_lt, ne_eqb, and_parts, and_from, not-true}
 use Rattle.std.proofs.lemmas.Str.{encode_ascii}
 use Rattle.rising.specs.Rising.{Each}
-use Rattle.rdf_term.specs.declared.content.Enclosure.TheVariants.{Brackets, Quotes}
+use Rattle.term_reading.specs.declared.content.Enclosure.TheVariants.{Brackets, Quotes}
 use Rattle.base.specs.declared.memory.OutOfMemory.{OutOfMemory}
 use Rattle.rdf_term.specs.declared.term.Term.{Term}
 use Rattle.rdf_term.specs.declared.term.Term.TheVariants.{Iri, Blank, Plain, Lang, Typed}
 use Rattle.rdf_term.specs.Fit.{is_fit, xsd_string}
 use Rattle.rdf_term.specs.Grammar.{is_iri, is_iri_char}
-use Rattle.rdf_term.specs.Text.{escaped, term_text}
-use Rattle.rdf_term.specs.Written.{escaped_char, hex_value, IsPiece, IsEscapedText, itself, letter, short, long, nothing, more, IsWritten, iri, blank, plain, lang, typed, literal_of_type}
-use Rattle.rdf_term.specs.Reader.{read}
-use Rattle.rdf_term.proofs.Reading.{reads}
-use Rattle.rdf_term.proofs.Escapes.{kind}
+use Rattle.rdf_term.specs.Text.{escaped, escaped_byte, term_text}
+use Rattle.term_reading.specs.Written.{letter_char, escaped_char, hex_value, IsPiece, IsEscapedText, itself, letter, short, long, nothing, more, IsWritten, iri, blank, plain, lang, typed, literal_of_type}
+use Rattle.term_reading.specs.Reader.{read}
+use Rattle.term_reading.proofs.Reading.{reads}
+use Rattle.rdf_term.proofs.Escapes.{Escapes, kind}
 use Rattle.rdf_term.proofs.FitTerms.{is_iri-append}
 use Rattle.rdf_term.proofs.HighBytes.{encode_high}
 use Rattle.rdf_term.proofs.IriChars.{is_iri_char-high}
@@ -26,12 +26,28 @@ iri_content (x ∷ xs) h =
     let parts = and_parts (is_iri_char x) (is_iri xs) h in
     more (x ∷ []) (x ∷ []) xs xs (itself x parts.0) (iri_content xs parts.1)
 
+-- the letter behind the backslash means the byte that it is written for
+meant : (x : ℕ) (k : Escapes x) → letter_char Quotes k.letter ≡ Some x
+meant x k =
+    ⊎_elim (by 34 34 refl refl)
+    (λ a. ⊎_elim (by 92 92 refl refl)
+    (λ b. ⊎_elim (by 10 110 refl refl)
+    (λ c. ⊎_elim (by 13 114 refl refl)
+    (λ d. let stands : escaped_byte x ≡ x ∷ [] = rw (ne_eqb x 34 a, ne_eqb x 92 b, ne_eqb x 10 c, ne_eqb x 13 d) refl in cc (stands, k.is))
+    (cases_eq x 13)) (cases_eq x 10)) (cases_eq x 92)) (cases_eq x 34)
+  where
+    by : (b l : ℕ) → escaped_byte b ≡ 92 ∷ l ∷ [] → letter_char Quotes l ≡ Some b → x ≡ b → letter_char Quotes k.letter ≡ Some x
+    by b l is means e =
+        let pair : 92 ∷ l ∷ [] ≡ 92 ∷ k.letter ∷ [] = sym is ∙ sym (ap escaped_byte e) ∙ k.is in
+        let same : l ≡ k.letter = cc in
+        sym (ap (letter_char Quotes) same) ∙ means ∙ ap (λ c. Some c) (sym e)
+
 escaped_content : (text : List ℕ) → IsEscapedText Quotes (escaped text) text
 escaped_content [] = nothing
 escaped_content (x ∷ xs) = ⊎_elim
     (λ k. rw k.is (more (x ∷ []) (x ∷ []) (escaped xs) xs (itself x (rw (ne_eqb x 34 k.not_quote, ne_eqb x 92 k.not_backslash, ne_eqb x 10 k.not_lf, ne_eqb x 13 k.not_cr) refl)) (escaped_content xs)))
     (λ k. rw k.is (
-    let piece : IsPiece Quotes (92 ∷ k.letter ∷ []) (x ∷ []) = subst (IsPiece Quotes (92 ∷ k.letter ∷ [])) (encode_ascii x k.low) (letter k.letter x k.meant) in
+    let piece : IsPiece Quotes (92 ∷ k.letter ∷ []) (x ∷ []) = subst (IsPiece Quotes (92 ∷ k.letter ∷ [])) (encode_ascii x k.low) (letter k.letter x (meant x k)) in
     more (92 ∷ k.letter ∷ []) (x ∷ []) (escaped xs) xs piece (escaped_content xs)))
     (kind x)
 

@@ -2,15 +2,14 @@
 
 ghost use Rattle.std.specs.Prelude.{◌≡◌, ◌↔◌, IfOk, IfSome, Some, true};
 ghost use Rattle.std.specs.Option.{option_map};
-ghost use Rattle.rdf_term.specs.{declared.term.Term.Term, Fit.is_fit};
-ghost use Rattle.rdf_term.specs.Reader.{behind, blank_in, iri_in, literal_in, literal_with, read, split_ascii, typed_in};
-ghost use Rattle.rdf_term.specs.{Text.term_text, Written.IsWritten, Written.literal_of_type};
+ghost use Rattle.rdf_term.specs.{declared.term.Term.Term, Fit.is_fit, Text.term_text};
+ghost use Rattle.term_reading.specs.Reader.{behind, blank_in, iri_in, literal_in, literal_with, read, split_ascii, typed_in};
+ghost use Rattle.term_reading.specs.Written.{IsWritten, literal_of_type};
 
 use crate::content::{Enclosure, content};
 use crate::label::is_label;
-use crate::tag::is_tag;
-use crate::term::Term;
 use base::{OutOfMemory, Text};
+use rdf_term::{Term, is_tag};
 use std::alloc::Global;
 
 // The datatype of plain literals.
@@ -108,7 +107,7 @@ fn read_typed(alloc: Global, text: Text, rest: &str) -> Result<Option<Term>, Out
 }
 
 // The literal of the text and the datatype.
-#[tactic(auto, unfolding(crate::specs::Fit::xsd_string))]
+#[tactic(auto, unfolding(rdf_term::specs::Fit::xsd_string))]
 fn literal_of_type(text: Text, datatype: Text) -> Term
     ensures { result ≡ literal_of_type text datatype }
 {
@@ -130,7 +129,7 @@ fn behind(byte: u8, text: &str) -> Option<&str>
 }
 
 // The first byte and what follows, where it is ASCII.
-#[tactic(auto, using(crate::proofs::Words::split_ascii_high))]
+#[tactic(auto, using(crate::proofs::FirstBytes::split_ascii_high))]
 fn split_ascii(text: &str) -> Option<(u8, &str)>
     ensures { option_map (λ p. (p.0, p.1.now)) result ≡ split_ascii text.now }
 {

@@ -1,6 +1,6 @@
 use Rattle.std.proofs.Common.{sym}
-use Rattle.rdf_term.proofs.Contents.{with_front-nil, at_close, at_refuse, at_go, at_keep, at_put, at_end}
-use Rattle.rdf_term.proofs.content.content.Goals as goal
+use Rattle.term_reading.proofs.Contents.{with_front-nil, at_close, at_refuse, at_go, at_keep, at_put, at_end}
+use Rattle.term_reading.proofs.content.content.Goals as goal
 
 pub loop-c-init : goal.loop-c-init
 loop-c-init c = rw (c.in_ok-out.ensures.bytes, c.chars-left.ensures.rest) (sym (with_front-nil _))

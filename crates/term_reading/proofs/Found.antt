@@ -3,13 +3,13 @@ use Rattle.std.proofs.Common.{◌≡◌, ℕ, ◌==◌, ◌-◌, ◌<◌, true, 
 use Rattle.std.specs.Char.{is_digit}
 use Rattle.std.specs.List.{list_all}
 use Rattle.std.proofs.lemmas.Bool.{cases_Bool, ltb-true, ltb-false, eqb-true, and_from}
-use Rattle.rdf_term.specs.declared.content.Enclosure.{Enclosure}
-use Rattle.rdf_term.specs.declared.content.State.{State}
-use Rattle.rdf_term.specs.declared.content.State.TheVariants.{Between, Backslash, Digits}
-use Rattle.rdf_term.specs.declared.content.Effect.{Effect}
-use Rattle.rdf_term.specs.declared.content.Effect.TheVariants.{Close, Keep, Put}
-use Rattle.rdf_term.specs.Reader.{step, step_between, step_backslash, step_digits, put_or_refuse, content_of, with_front, follow}
-use Rattle.rdf_term.specs.Written.{closing, stands, letter_char, escaped_char, next_value, IsEscape, IsPiece, IsEscapedText, itself, letter, short, long, nothing, more}
+use Rattle.term_reading.specs.declared.content.Enclosure.{Enclosure}
+use Rattle.term_reading.specs.declared.content.State.{State}
+use Rattle.term_reading.specs.declared.content.State.TheVariants.{Between, Backslash, Digits}
+use Rattle.term_reading.specs.declared.content.Effect.{Effect}
+use Rattle.term_reading.specs.declared.content.Effect.TheVariants.{Close, Keep, Put}
+use Rattle.term_reading.specs.Reader.{step, step_between, step_backslash, step_digits, put_or_refuse, content_of, with_front, follow}
+use Rattle.term_reading.specs.Written.{closing, stands, letter_char, escaped_char, next_value, IsEscape, IsPiece, IsEscapedText, itself, letter, short, long, nothing, more}
 use lib.Utf8.{encode}
 
 -- the bytes begin with a content and what closes it

@@ -2,11 +2,11 @@
 
 ghost use Rattle.std.specs.Prelude.{◌≡◌, ◌<◌, ◌≤◌, IfOk, encode_utf8};
 ghost use Rattle.std.specs.Option.{option_map};
-ghost use Rattle.rdf_term.specs.Reader.{after_digit, content_of, put_or_refuse, step, step_backslash, step_between, step_digits};
-ghost use Rattle.rdf_term.specs.Written.{closing, escaped_char, letter_char, stands};
+ghost use Rattle.term_reading.specs.Reader.{after_digit, content_of, put_or_refuse, step, step_backslash, step_between, step_digits};
+ghost use Rattle.term_reading.specs.Written.{closing, escaped_char, letter_char, stands};
 
-use crate::percent::is_iri_char;
 use base::{OutOfMemory, Text};
+use rdf_term::is_iri_char;
 use std::alloc::Global;
 
 /// What encloses a content.

@@ -4,8 +4,8 @@ use Rattle.std.specs.Char.{digit_value, is_digit}
 use Rattle.std.specs.List.{list_any, list_all}
 use Rattle.std.specs.Str.{bytes_eq}
 use lib.Utf8.{scalar}
-use Rattle.rdf_term.specs.declared.content.Enclosure.{Enclosure}
-use Rattle.rdf_term.specs.declared.content.Enclosure.TheVariants.{Brackets, Quotes}
+use Rattle.term_reading.specs.declared.content.Enclosure.{Enclosure}
+use Rattle.term_reading.specs.declared.content.Enclosure.TheVariants.{Brackets, Quotes}
 use Rattle.rdf_term.specs.declared.term.Term.{Term}
 use Rattle.rdf_term.specs.declared.term.Term.TheVariants.{Iri, Blank, Plain, Lang, Typed}
 use Rattle.rdf_term.specs.Fit.{xsd_string}

@@ -6,7 +6,7 @@ ghost use Rattle.rdf_term.specs.Grammar.{is_label};
 use base::are_alphanumeric;
 
 /// Whether the bytes are a label: one or more ASCII letters and digits.
-#[tactic(auto, using(crate::proofs::Words::is_word_filled))]
+#[tactic(auto, using(rdf_term::proofs::Words::is_word_filled))]
 pub fn is_label(label: &[u8]) -> bool
     ensures { result ≡ is_label label.now }
 {

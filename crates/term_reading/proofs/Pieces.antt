@@ -3,12 +3,12 @@ use Rattle.std.proofs.Common.{◌≡◌, ℕ, ◌==◌, ◌-◌, ◌<◌, ◌≤
 use Rattle.std.specs.Char.{is_digit}
 use Rattle.std.specs.List.{list_all}
 use Rattle.std.proofs.lemmas.Bool.{cases_lt, lt-ltb, le-ltb, le-leb, ne_eqb, false≢true, and_parts}
-use Rattle.rdf_term.specs.declared.content.Enclosure.{Enclosure}
-use Rattle.rdf_term.specs.declared.content.Enclosure.TheVariants.{Brackets, Quotes}
-use Rattle.rdf_term.specs.declared.content.State.TheVariants.{Between, Backslash, Digits}
-use Rattle.rdf_term.specs.declared.content.Effect.TheVariants.{Go, Keep, Put}
-use Rattle.rdf_term.specs.Reader.{step, step_between, step_backslash, content_of, with_front}
-use Rattle.rdf_term.specs.Written.{closing, stands, letter_char, escaped_char, next_value, IsPiece, IsEscapedText, itself, letter, short, long, nothing, more}
+use Rattle.term_reading.specs.declared.content.Enclosure.{Enclosure}
+use Rattle.term_reading.specs.declared.content.Enclosure.TheVariants.{Brackets, Quotes}
+use Rattle.term_reading.specs.declared.content.State.TheVariants.{Between, Backslash, Digits}
+use Rattle.term_reading.specs.declared.content.Effect.TheVariants.{Go, Keep, Put}
+use Rattle.term_reading.specs.Reader.{step, step_between, step_backslash, content_of, with_front}
+use Rattle.term_reading.specs.Written.{closing, stands, letter_char, escaped_char, next_value, IsPiece, IsEscapedText, itself, letter, short, long, nothing, more}
 use lib.Utf8.{encode}
 
 pub value_grows : (digits : List ℕ) (value : ℕ) → value ≤ fold next_value value digits

@@ -2,17 +2,17 @@
 use Rattle.std.proofs.Common.{◌≡◌, ◌↔◌, ℕ, ◌==◌, Bool, true, false, List, [], ◌∷◌, ◌++◌, Option, Some, None, Result, Ok, Err, IfOk, refl, sym, ap, ◌∙◌, subst, ⊎_elim, nat_lt, if◌then◌else◌}
 use Rattle.std.specs.Option.{option_map, option_and_then}
 use Rattle.std.proofs.lemmas.Bool.{cases_Bool, eqb-true}
-use Rattle.rdf_term.specs.declared.content.Enclosure.TheVariants.{Brackets, Quotes}
-use Rattle.rdf_term.specs.declared.content.State.TheVariants.{Between}
+use Rattle.term_reading.specs.declared.content.Enclosure.TheVariants.{Brackets, Quotes}
+use Rattle.term_reading.specs.declared.content.State.TheVariants.{Between}
 use Rattle.base.specs.declared.memory.OutOfMemory.{OutOfMemory}
 use Rattle.rdf_term.specs.declared.term.Term.{Term}
 use Rattle.rdf_term.specs.declared.term.Term.TheVariants.{Iri, Blank, Plain, Lang}
 use Rattle.rdf_term.specs.Grammar.{is_label, is_tag}
-use Rattle.rdf_term.specs.Reader.{read, content_of, split_ascii, whole, iri_in, behind, blank_in, typed_in, literal_after, literal_with, literal_in, term_after}
+use Rattle.term_reading.specs.Reader.{read, content_of, split_ascii, whole, iri_in, behind, blank_in, typed_in, literal_after, literal_with, literal_in, term_after}
 use Rattle.rdf_term.specs.Text.{in_quotes}
-use Rattle.rdf_term.specs.Written.{IsEscapedText, IsWritten, iri, blank, plain, lang, typed, literal_of_type}
-use Rattle.rdf_term.proofs.Pieces.{content_read}
-use Rattle.rdf_term.proofs.Found.{IsRead, read_content}
+use Rattle.term_reading.specs.Written.{IsEscapedText, IsWritten, iri, blank, plain, lang, typed, literal_of_type}
+use Rattle.term_reading.proofs.Pieces.{content_read}
+use Rattle.term_reading.proofs.Found.{IsRead, read_content}
 
 -- what a text writes is read
 written_read : (text : List ℕ) (term : Term) → IsWritten text term → read text ≡ Some term

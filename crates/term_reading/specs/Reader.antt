@@ -2,16 +2,16 @@
 use Rattle.std.specs.Prelude.{ℕ, ◌+◌, ◌-◌, ◌*◌, List, [], ◌∷◌, ◌++◌, ◌==◌, if◌then◌else◌, nat_lt, Option, Some, None, encode_utf8}
 use Rattle.std.specs.Char.{digit_value, is_digit}
 use Rattle.std.specs.Option.{option_and_then, option_map}
-use Rattle.rdf_term.specs.declared.content.Enclosure.{Enclosure}
-use Rattle.rdf_term.specs.declared.content.Enclosure.TheVariants.{Brackets, Quotes}
-use Rattle.rdf_term.specs.declared.content.State.{State}
-use Rattle.rdf_term.specs.declared.content.State.TheVariants.{Between, Backslash, Digits}
-use Rattle.rdf_term.specs.declared.content.Effect.{Effect}
-use Rattle.rdf_term.specs.declared.content.Effect.TheVariants.{Close, Refuse, Go, Keep, Put}
+use Rattle.term_reading.specs.declared.content.Enclosure.{Enclosure}
+use Rattle.term_reading.specs.declared.content.Enclosure.TheVariants.{Brackets, Quotes}
+use Rattle.term_reading.specs.declared.content.State.{State}
+use Rattle.term_reading.specs.declared.content.State.TheVariants.{Between, Backslash, Digits}
+use Rattle.term_reading.specs.declared.content.Effect.{Effect}
+use Rattle.term_reading.specs.declared.content.Effect.TheVariants.{Close, Refuse, Go, Keep, Put}
 use Rattle.rdf_term.specs.declared.term.Term.{Term}
 use Rattle.rdf_term.specs.declared.term.Term.TheVariants.{Iri, Blank, Plain, Lang}
 use Rattle.rdf_term.specs.Grammar.{is_label, is_tag}
-use Rattle.rdf_term.specs.Written.{closing, stands, letter_char, escaped_char, literal_of_type}
+use Rattle.term_reading.specs.Written.{closing, stands, letter_char, escaped_char, literal_of_type}
 
 -- a character between two pieces
 abbrev pub step_between : Enclosure → ℕ → Effect
