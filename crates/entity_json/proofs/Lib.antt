@@ -18,9 +18,3 @@ pub mod Outcomes
 pub mod AnswerLemmas
 pub mod Fitness
 pub mod Owned
-pub mod Entried
-pub mod Rows
-pub mod Splitting
-pub mod ChangedMaps
-pub mod ChangedEntities
-pub mod ChangedPages

@@ -18,4 +18,3 @@ pub mod Statements
 pub mod Links
 pub mod Pages
 pub mod Unfit
-pub mod Changed

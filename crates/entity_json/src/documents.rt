@@ -11,7 +11,7 @@ use entity_model::{Document, EntityId, Unfit};
 use json_spell::read;
 use std::alloc::Global;
 
-// How many bytes a page may have.
+/// How many bytes a page may have.
 pub const PAGE_LIMIT: usize = 8_388_608;
 
 // The document of a page, where it is that of the entity.

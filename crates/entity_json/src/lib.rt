@@ -2,10 +2,9 @@
 //!
 //! `documents` has the call, and `page` the page of a tree: a redirect, an item or property of `entity`, or a lexeme of
 //! `lexeme`, with the parts that `terms`, `statements`, `snaks`, `values`, `links` and `items` read. All of these read leaves by `leaf` and `number`, maps by
-//! `map`, and lists by the loops of `each`. `changed` reads two pages of an entity, and tells what each has of its own. `part` and `fault` have what a part and a page are refused for.
+//! `map`, and lists by the loops of `each`. `part` and `fault` have what a part and a page are refused for.
 #![tactic(auto)]
 
-mod changed;
 mod documents;
 mod each;
 mod entity;
@@ -24,10 +23,11 @@ mod statements;
 mod terms;
 mod values;
 
-pub use changed::{Changed, read_changed};
-pub use documents::document;
+pub use documents::{PAGE_LIMIT, document};
 pub use fault::DocumentFault;
 pub use laws::{
     a_tree_has_one_page, documents_are_of_their_entities, documents_are_pages, documents_are_small,
     unfit_pages_have_causes,
 };
+pub use page::{Page, page_of};
+pub use part::PartFault;

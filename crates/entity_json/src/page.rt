@@ -13,12 +13,12 @@ use entity_model::{Document, EntityId, IdKind};
 use json_spell::Json;
 use std::alloc::Global;
 
-// The page of an entity.
+/// The page of an entity.
 #[derive(Debug, Drop)]
 pub struct Page<'a> {
-    // The entity whose page it is.
+    /// The entity whose page it is.
     pub id: EntityId,
-    // What the page says.
+    /// What the page says.
     pub document: Document<'a>,
 }
 
@@ -92,7 +92,9 @@ fn page_tree_of<'m, 'b, 'a>(json: &'m Json<'b, 'a>) -> Result<&'m Json<'b, 'a>, 
     }
 }
 
-// The page of a text's value.
+/// The page of a text's value, after Wikibase's JSON data model: a redirect, an item or property, or a lexeme; or the only member of
+/// `entities`, where the value has this member. Its texts are parts of the text that the value was read from, but for those that it writes
+/// with escapes. `Shape` where the value is no page.
 #[tactic(auto, unfolding(crate::specs::Reading::Pages::page_of))]
 pub fn page_of<'a>(alloc: Global, json: &Json<'_, 'a>) -> Result<Page<'a>, PartFault>
     ensures { Finds result (page_of (json_view json.now)) }

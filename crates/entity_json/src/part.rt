@@ -6,12 +6,12 @@ ghost use Rattle.entity_json.specs.declared.part.PartFault.TheVariants.{OutOfMem
 use base::OutOfMemory;
 use std::alloc::{AllocError, AllocFailed};
 
-// Why a part of a page isn't read.
+/// Why a page, or a part of one, isn't read.
 #[derive(Clone, Copy, Debug)]
 pub enum PartFault {
-    // It breaks a rule of pages.
+    /// It breaks a rule of pages.
     Shape,
-    // A request for memory was refused.
+    /// A request for memory was refused.
     OutOfMemory,
 }
 

@@ -19,15 +19,6 @@ pub mod Utf8Texts
 pub mod Scans
 pub mod Shallow
 pub mod Levels
-pub mod SpelledLists
-pub mod Owning
-pub mod Apart
-pub mod Turning
-pub mod Founds
 pub mod Nested
 pub mod Lanes
 pub mod PlainRuns
-pub mod Lows
-pub mod Skims
-pub mod SpelledTexts
-pub mod Readables

@@ -14,8 +14,3 @@ pub mod Parses
 pub mod Scan
 pub mod Runs
 pub mod Closed
-pub mod Spelled
-pub mod Differing
-pub mod Found
-pub mod Brackets
-pub mod Readable

@@ -1,5 +1,5 @@
 -- How the reader goes over bytes, step by step: functions from the bytes to what is read at their front and what follows it.
--- Clauses of private functions cite them, and what a document of an entity is stands on them; that they agree with the grammar is
+-- Clauses of the readers cite them, and what a document of an entity is stands on them; that they agree with the grammar is
 -- proved.
 use Rattle.std.specs.Prelude.{ℕ, zero, suc, ◌-◌, List, [], ◌∷◌, ◌++◌, length, take, Bool, true, false, cond, ◌&&◌, ◌==◌, Option, Some, None, option_map, option_and_then, encode_utf8}
 use Rattle.std.specs.Char.{is_ascii_digit}

@@ -3,11 +3,14 @@
 ghost use Rattle.std.specs.Prelude.{◌≡◌};
 ghost use Rattle.json_spell.specs.Deep.{deep_from, position_after, is_opening, is_closing};
 
-// Where a byte stands: outside of strings, in one, or after a backslash in one.
+/// Where a byte of a text stands.
 #[derive(Clone, Copy)]
-enum Position {
+pub enum Position {
+    /// Outside of strings.
     Outside,
+    /// In a string, its closing quotation mark included.
     Inside,
+    /// In a string, behind the backslash of an escape.
     Escaped,
 }
 
@@ -25,7 +28,8 @@ impl Position {
     }
 }
 
-pub(crate) fn is_opening(byte: u8) -> bool
+/// Whether a byte is `[` or `{`.
+pub fn is_opening(byte: u8) -> bool
     ensures { result ≡ is_opening byte }
 {
     byte == b'[' || byte == b'{'

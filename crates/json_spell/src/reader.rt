@@ -8,8 +8,8 @@ use crate::json::Json;
 use crate::value::read_spaced;
 use bumpalo::Bump;
 
-// How many levels arrays and objects may nest.
-pub(crate) const LEVELS: usize = 64;
+/// How many levels arrays and objects may nest.
+pub const LEVELS: usize = 64;
 
 // The value of a whole text that nests no deeper than allowed.
 fn read_whole<'b, 'a: 'b>(arena: &'b Bump, bytes: &'a [u8]) -> Result<Json<'b, 'a>, JsonFault>

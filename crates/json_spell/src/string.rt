@@ -1,7 +1,7 @@
 // Reads a string: RFC 8259, section 7.
 
-ghost use Rattle.std.specs.Prelude.{◌≡◌, ◌≤◌, ◌<◌, ◌^◌, IsTrue, length, option_map, IfSome, IfOk, Some, ◌++◌, string_bytes};
-ghost use Rattle.std.specs.Char.{digit_value};
+ghost use Rattle.std.specs.Prelude.{◌≡◌, ◌≤◌, ◌<◌, ◌+◌, ◌*◌, ◌^◌, ◌&&◌, cond, IsTrue, length, option_map, IfSome, IfOk, None, Some, ◌++◌, string_bytes};
+ghost use Rattle.std.specs.Char.{digit_value, is_digit};
 ghost use Rattle.json_spell.specs.Text.{short_escape, code_unit, is_high_surrogate, is_low_surrogate};
 ghost use Rattle.json_spell.specs.Reading.{before, run_at, low_half, unicode_at, escape_at, content_at};
 ghost use Rattle.json_spell.specs.{Content.content_bytes, Tree.string, View.json_view, Parses.Parses};
@@ -62,17 +62,25 @@ fn short_escape(letter: u8) -> Option<char>
     }
 }
 
+// The number that two hexadecimal digits spell.
+fn two_digits(a: u8, b: u8) -> Option<u32>
+    ensures number { result ≡ cond (is_digit a 16 && is_digit b 16) (Some (digit_value a * 16 + digit_value b)) None }
+    ensures small { IfSome result (λ number. number < 256) }
+{
+    let a = char::from(a).to_digit(16)?;
+    let b = char::from(b).to_digit(16)?;
+    Some(a * 16 + b)
+}
+
 // The number that four hexadecimal digits spell.
 #[tactic(auto, unfolding(crate::specs::Text::code_unit))]
 fn code_unit(a: u8, b: u8, c: u8, d: u8) -> Option<u32>
     ensures unit { result ≡ code_unit a b c d }
     ensures small { IfSome result (λ unit. unit < 2 ^ 16) }
 {
-    let a = char::from(a).to_digit(16)?;
-    let b = char::from(b).to_digit(16)?;
-    let c = char::from(c).to_digit(16)?;
-    let d = char::from(d).to_digit(16)?;
-    Some(a * 4096 + b * 256 + c * 16 + d)
+    let high = two_digits(a, b)?;
+    let low = two_digits(c, d)?;
+    Some(high * 256 + low)
 }
 
 // The character of a surrogate pair, after its high surrogate.

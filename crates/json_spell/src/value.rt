@@ -58,9 +58,11 @@ fn read_other_name<'b, 'a: 'b>(
     Ok((content.name(), skip_ws(rest)))
 }
 
-// A name with white space around it. Rare cases have functions of their own, here and below, which are inlined.
+/// The name at the front, with white space around it, its escapes replaced by their characters, and what follows it. `NotJson` where no
+/// name stands there. A name with escapes is put into the arena; any other one is a part of the bytes.
+// Rare cases have functions of their own, here and below, which are inlined.
 #[inline(always)]
-pub(crate) fn read_name<'b, 'a: 'b>(
+pub fn read_name<'b, 'a: 'b>(
     arena: &'b Bump,
     bytes: &'a [u8],
 ) -> Result<(&'b str, &'a [u8]), JsonFault>
@@ -88,11 +90,12 @@ fn read_text<'b, 'a>(bytes: &'a [u8]) -> Option<(Json<'b, 'a>, &'a [u8])>
     Some((Json::Str(text), rest))
 }
 
-// A value with white space around it. Most values are strings as above, so these are tried first. Here and below, an
-// array or object that opens where no level is left is Deep.
+/// The value at the front, with white space around it, and what follows it. What of it isn't a part of the bytes is put into the arena.
+/// Its arrays and objects nest up to so many levels: one that opens where none is left is `Deep`. `NotJson` where no value stands there.
+// Most values are strings as above, so these are tried first.
 #[cycle(read)]
 #[inline(always)]
-pub(crate) fn read_spaced<'b, 'a: 'b>(
+pub fn read_spaced<'b, 'a: 'b>(
     arena: &'b Bump,
     levels: usize,
     bytes: &'a [u8],
@@ -124,10 +127,10 @@ fn read_ended<'b, 'a: 'b>(
     Ok((json, skip_ws(rest)))
 }
 
-// A value.
+/// The same, where no white space stands before the value, and that behind it is left.
 #[cycle(read)]
 #[inline(never)]
-pub(crate) fn read_value<'b, 'a: 'b>(
+pub fn read_value<'b, 'a: 'b>(
     arena: &'b Bump,
     levels: usize,
     bytes: &'a [u8],

@@ -7,8 +7,8 @@ use Rattle.merging.specs.Merging.{Balance, IsWithin}
 use Rattle.rdf_term.specs.declared.triple.Triple.{Triple}
 use Rattle.rdf_term.specs.Fit.{HasFitAndShortTerms}
 use Rattle.rdf_term.specs.Order.{triple_cmp}
-use Rattle.entity_json.specs.declared.changed.Changed.{Changed}
-use Rattle.entity_json.specs.Changed.{HasChanged}
+use Rattle.changed_pages.specs.declared.changed.Changed.{Changed}
+use Rattle.changed_pages.specs.Changed.{HasChanged}
 use Rattle.entity_json.specs.Document.{document_by, document_of, document_or_cause, unfit_by, unfit_of}
 use Rattle.entity_json.proofs.Fitness.{document_small}
 use Rattle.entity_model.specs.declared.document.Document.{Document}

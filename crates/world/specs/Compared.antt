@@ -2,7 +2,7 @@
 use Rattle.std.specs.Prelude.{◌≡◌, ℕ, List, Some}
 use Rattle.std.specs.List.{AllByRecursion}
 use Rattle.rdf_term.specs.Fit.{HasFitAndShortTerms}
-use Rattle.entity_json.specs.declared.changed.Changed.{Changed}
+use Rattle.changed_pages.specs.declared.changed.Changed.{Changed}
 use Rattle.entity_json.specs.Document.{document_of}
 use Rattle.entity_model.specs.declared.document.Document.TheVariants.{Entity as AnEntity}
 use Rattle.entity_model.specs.declared.entity.Entity.{Entity}

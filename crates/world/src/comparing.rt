@@ -7,7 +7,7 @@ ghost use Rattle.entity_rdf.specs.Counted.{counted_kept, counts_of};
 ghost use Rattle.world.specs.Compared.{AreChanged, AreTextsOfParts};
 
 use crate::fetching::Wanted;
-use entity_json::{Changed, read_changed};
+use changed_pages::{Changed, read_changed};
 use entity_model::Entity;
 use entity_rdf::{Counted, Counts, counted_texts};
 use rdf_term::{List, OutOfMemory};

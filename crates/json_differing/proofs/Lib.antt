@@ -1,0 +1,9 @@
+pub mod SpelledLists
+pub mod Owning
+pub mod Apart
+pub mod Turning
+pub mod Founds
+pub mod Lows
+pub mod Skims
+pub mod SpelledTexts
+pub mod Readables

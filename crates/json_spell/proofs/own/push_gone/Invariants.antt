@@ -1,9 +1,0 @@
--- The members up to the index are gone.
-use Rattle.std.proofs.Common.{map, take}
-use Rattle.merging.specs.Merging.{Merges}
-use Rattle.json_spell.specs.Differing.{Members}
-use Rattle.json_spell.specs.Spelled.{spelled_view}
-use Rattle.json_spell.proofs.own.push_gone.Given as goal
-
-abbrev pub invariant-loop-index : goal.invariant-loop-index
-invariant-loop-index l = (common : Members) → Merges common (map spelled_view l.initial.gone.items) (map spelled_view (take l.first l.olds)) → Merges common (map spelled_view l.gone.items) (map spelled_view (take l.index l.olds))

@@ -1,8 +1,0 @@
-use Rattle.std.proofs.Common.{◌≤◌, length}
-use Rattle.json_spell.proofs.shared.past_front.Given as goal
-
-abbrev pub invariant-loop-old : goal.invariant-loop-old
-invariant-loop-old l = length l.new ≤ length l.texts.new.now
-
-abbrev pub decreases-loop-old : goal.decreases-loop-old
-decreases-loop-old l = length l.new
