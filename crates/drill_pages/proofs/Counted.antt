@@ -27,7 +27,7 @@ use Rattle.statement_rdf.specs.Snak.{content_triples, link_triples, snak_triples
 use Rattle.statement_rdf.specs.Statement.{direct_content, head_triples, main_triples, reference_triples, source_triples, statement_triples, where_best}
 use Rattle.sitelinks.specs.Article.{article_triples}
 use Rattle.page_rdf.specs.Dataset.{dataset_term}
-use Rattle.page_rdf.specs.Statements.{statements_triples}
+use Rattle.statement_rdf.specs.Statements.{statements_triples}
 use Rattle.entity_rdf.specs.Dump.{entity_triples, spoken_triples}
 use Rattle.drill.specs.Drill.{item}
 use Rattle.drill_pages.proofs.Parts.{HasNone, IsLabelled, IsSourced}

@@ -20,7 +20,7 @@ use Rattle.rdf_vocabulary.specs.Prefix.{entity_term}
 use Rattle.sitelinks.specs.Article.{article_triples}
 use Rattle.statement_rdf.specs.Ranking.{is_best, is_ranked_above, rank_number}
 use Rattle.statement_rdf.specs.Statement.{statement_triples}
-use Rattle.page_rdf.specs.Statements.{judged_triples, statements_triples}
+use Rattle.statement_rdf.specs.Statements.{judged_triples, statements_triples}
 use Rattle.entity_rdf.specs.About.{alias_triples, class_triples, description_triples, label_triples}
 use Rattle.entity_rdf.specs.Changing.{kept_list}
 use Rattle.entity_rdf.specs.Counted.{counted_dataset, counted_kept, counted_triples, counts_of}

@@ -26,8 +26,9 @@ use Rattle.rdf_vocabulary.proofs.Fit.{AreFit, about_fit, class_fit, join, join_a
 use Rattle.rdf_vocabulary.proofs.Ids.{id_term_fit}
 use Rattle.entity_model.specs.declared.mapping.MappingVersion.{MappingVersion}
 use Rattle.page_rdf.specs.Dataset.{change_triples, dataset_term, number_triples, page_triples}
-use Rattle.page_rdf.specs.Statements.{statements_triples}
-use Rattle.page_rdf.proofs.Fit.{change_fit, dataset_fit, entity_fit, number_fit, numbers_fit, page_fit, statements_fit, text_fit}
+use Rattle.statement_rdf.specs.Statements.{statements_triples}
+use Rattle.page_rdf.proofs.Fit.{change_fit, dataset_fit, entity_fit, number_fit, numbers_fit, page_fit, text_fit}
+use Rattle.statement_rdf.proofs.Fit.{statements_fit}
 use Rattle.lexeme_rdf.proofs.Fit.{lexdump_list_fit}
 use Rattle.entity_rdf.specs.About.{alias_triples, class_of, class_triples, dataset_triples, description_triples, label_triples, link_count}
 use Rattle.entity_rdf.specs.Property.{datatype_triples, is_datatype_char, other_predicates, predicate_triple, property_triples, property_triples_of, type_name, value_predicates}

@@ -12,7 +12,7 @@ use Rattle.rdf_vocabulary.specs.Prefix.{entity_term}
 use Rattle.munger.specs.Munging.{munged}
 use Rattle.sitelinks.specs.Article.{article_triples}
 use Rattle.page_rdf.specs.Dataset.{change_triples, dataset_term, identifiers, number_term, page_triples}
-use Rattle.page_rdf.specs.Statements.{statements_triples}
+use Rattle.statement_rdf.specs.Statements.{statements_triples}
 use Rattle.entity_rdf.specs.declared.counted.Counts.{Counts}
 use Rattle.entity_rdf.specs.About.{link_count}
 use Rattle.entity_rdf.specs.Dump.{text_triples}

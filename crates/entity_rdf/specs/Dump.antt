@@ -14,7 +14,7 @@ use Rattle.sitelinks.specs.Article.{article_triples}
 use Rattle.entity_rdf.specs.About.{alias_triples, class_triples, dataset_triples, description_triples, label_triples}
 use Rattle.entity_rdf.specs.Property.{property_triples}
 use Rattle.lexeme_rdf.specs.Dump.{lexdump}
-use Rattle.page_rdf.specs.Statements.{statements_triples}
+use Rattle.statement_rdf.specs.Statements.{statements_triples}
 
 -- the class and the texts of an entity
 abbrev pub text_triples : EntityId → Entity → List Triple

@@ -13,7 +13,7 @@ use crate::dataset::emit_dataset;
 use crate::property::emit_property;
 use entity_model::{Document, EntityId, Link};
 use lexeme_rdf::emit_lexeme;
-use page_rdf::emit_statements;
+use statement_rdf::emit_statements;
 use rdf_term::OutOfMemory;
 use rdf_vocabulary::{Predicate, Prefix};
 use sitelinks::emit_article;

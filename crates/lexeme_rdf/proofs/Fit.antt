@@ -27,8 +27,9 @@ use Rattle.rdf_vocabulary.proofs.Fit.{AreFit, about_fit, class_fit, join, join_a
 use Rattle.rdf_vocabulary.proofs.Ids.{decimal_iri, id_text_iri, id_text_short}
 use Rattle.munger.proofs.Fit.{sorted_each}
 use Rattle.page_rdf.specs.Dataset.{change_triples, dataset_term, number_triples, page_triples}
-use Rattle.page_rdf.specs.Statements.{statements_triples}
-use Rattle.page_rdf.proofs.Fit.{change_fit, entity_fit, numbers_fit, page_fit, statements_fit, text_fit}
+use Rattle.statement_rdf.specs.Statements.{statements_triples}
+use Rattle.page_rdf.proofs.Fit.{change_fit, entity_fit, numbers_fit, page_fit, text_fit}
+use Rattle.statement_rdf.proofs.Fit.{statements_fit}
 use Rattle.lexeme_rdf.specs.Dump.{lexdump, part_triples, spoken_triples}
 use Rattle.lexeme_rdf.specs.Entry.{entry_triples, lemma_triples}
 use Rattle.lexeme_rdf.specs.Form.{feature_triples, form_head, form_triples}

@@ -27,7 +27,7 @@ use Rattle.lexeme_rdf.specs.Gives.{LexemeGives, entry, lemma, page, form, sense,
 use Rattle.lexeme_rdf.specs.Part.{part_term}
 use Rattle.lexeme_rdf.specs.Page.{lexeme_page_triples}
 use Rattle.lexeme_rdf.specs.Sense.{sense_head, sense_triples}
-use Rattle.page_rdf.specs.Statements.{judged_triples, statements_triples}
+use Rattle.statement_rdf.specs.Statements.{judged_triples, statements_triples}
 use Rattle.lexeme_rdf.specs.Statements.{all_statements, part_statements}
 use Rattle.lexeme_rdf.specs.Texts.{text_triples}
 

@@ -6,7 +6,7 @@ ghost use Rattle.triple_sink.specs.Gains.{Gains, KeepsFront};
 ghost use Rattle.lexeme_rdf.specs.Statements.{all_statements, part_statements};
 
 use entity_model::{EntityId, Lexeme, Part};
-use page_rdf::emit_statements;
+use statement_rdf::emit_statements;
 use rdf_term::OutOfMemory;
 use rdf_vocabulary::Prefix;
 use triple_sink::{Setting, TermRef, TripleSink};

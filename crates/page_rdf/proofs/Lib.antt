@@ -1,3 +1,1 @@
-pub mod Each
 pub mod Fit
-pub mod Labels

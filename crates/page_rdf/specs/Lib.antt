@@ -1,3 +1,2 @@
 pub mod Dataset
-pub mod Statements
 pub mod Texts

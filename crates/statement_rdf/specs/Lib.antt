@@ -4,3 +4,4 @@ pub mod Ranking
 pub mod Role
 pub mod Snak
 pub mod Statement
+pub mod Statements

@@ -1,7 +1,8 @@
 //! What the statements of an entity become in RDF ("Wikibase RDF Dump Format", Statement types): which of
 //! them are best, and the triples of each, of its qualifiers and of its references.
 //!
-//! `best` judges the statements of a list, and `emit_statement` hands on the triples of one.
+//! `best` judges the statements of a list, `emit_statement` hands on the triples of one, and `emit_statements` those of all statements of a
+//! subject.
 #![tactic(auto)]
 
 mod label;
@@ -11,6 +12,7 @@ mod ranking;
 mod role;
 mod snak;
 mod statement;
+mod statements;
 
 pub use laws::{
     best_is_ranked_highest, statement_names_keep_characters, statement_terms_are_fit,
@@ -18,3 +20,4 @@ pub use laws::{
 };
 pub use ranking::best;
 pub use statement::emit_statement;
+pub use statements::emit_statements;

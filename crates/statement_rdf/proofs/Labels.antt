@@ -30,7 +30,7 @@ use Rattle.value_nodes.specs.Terms.{amount_term, commons_media, simple_term, tex
 use Rattle.statement_rdf.specs.declared.role.Role.{Role}
 use Rattle.statement_rdf.specs.Gives.{SnakGives, simple_value, value_node, node_part, no_value, unknown_value, DirectGives, direct_value, direct_no_value, direct_unknown, StatementGives, claim, statement_class, statement_rank, best_rank, main_snak, best_snak, qualifier_snak, derived, source_class, source_snak}
 use Rattle.munger.specs.Short.{has_short_label, HasShortLabels}
-use Rattle.page_rdf.proofs.Each.{of_member}
+use Rattle.statement_rdf.proofs.Each.{of_member}
 
 -- the label is short, where the term is a blank node
 abbrev pub IsShort : Term → Type 0

@@ -4,11 +4,12 @@ ghost use Rattle.std.specs.Prelude.{◌≡◌, ◌<◌, length, map, slice_index
 ghost use Rattle.std.specs.List.{flat_map};
 ghost use Rattle.triple_sink.specs.{Gains.Gains, Gains.KeepsFront, TermRef.meant};
 ghost use Rattle.statement_rdf.specs.Ranking.{is_best};
-ghost use Rattle.page_rdf.specs.Statements.{judged_triples, statements_triples};
+ghost use Rattle.statement_rdf.specs.Statements.{judged_triples, statements_triples};
 
+use crate::ranking::best;
+use crate::statement::emit_statement;
 use entity_model::Statement;
 use rdf_term::{List, OutOfMemory};
-use statement_rdf::{best, emit_statement};
 use triple_sink::{Setting, TermRef, TripleSink};
 
 /// Emits the triples of the statements of the subject, each judged among them alone.

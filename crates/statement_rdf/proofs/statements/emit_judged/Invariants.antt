@@ -3,8 +3,8 @@ use Rattle.std.proofs.Common.{◌≡◌, take}
 use Rattle.std.specs.List.{flat_map}
 use Rattle.triple_sink.specs.Gains.{Gains, KeepsFront}
 use Rattle.triple_sink.specs.TermRef.{meant}
-use Rattle.page_rdf.specs.Statements.{judged_triples}
-use Rattle.page_rdf.proofs.statements.emit_judged.Given as goal
+use Rattle.statement_rdf.specs.Statements.{judged_triples}
+use Rattle.statement_rdf.proofs.statements.emit_judged.Given as goal
 
 abbrev pub invariant-loop-statement : goal.invariant-loop-statement
 invariant-loop-statement g l =
