@@ -18,7 +18,7 @@ use Rattle.entity_change.specs.Changes.{AreSeparate, EntityChanges, StatementCha
 use Rattle.munger.specs.Munging.{munged}
 use Rattle.rdf_vocabulary.specs.Prefix.{entity_term}
 use Rattle.sitelinks.specs.Article.{article_triples}
-use Rattle.statement_rdf.specs.Ranking.{is_best, is_ranked_above, rank_number}
+use Rattle.statement_ranks.specs.Ranking.{is_best, is_ranked_above, rank_number}
 use Rattle.statement_rdf.specs.Statement.{statement_triples}
 use Rattle.statement_rdf.specs.Statements.{judged_triples, statements_triples}
 use Rattle.entity_rdf.specs.About.{alias_triples, class_triples, description_triples, label_triples}

@@ -6,7 +6,7 @@ use Rattle.entity_model.specs.declared.statement.Rank.{Rank}
 use Rattle.entity_model.specs.declared.statement.Rank.TheVariants.{Deprecated, Normal, Preferred}
 use Rattle.entity_model.specs.declared.statement.Statement.{Statement}
 use Rattle.entity_model.specs.EntityId.{entity_cmp}
-use Rattle.statement_rdf.specs.Ranking.{rank_number, is_best, is_highest}
+use Rattle.statement_ranks.specs.Ranking.{rank_number, is_best, is_highest}
 
 -- no rank is above itself
 never_above : (same : Bool) (rank : Rank) → (same && nat_lt (rank_number rank) (rank_number rank)) ≡ false

@@ -1,7 +1,7 @@
 // The roles in which snaks stand in statements.
 
 ghost use Rattle.std.specs.Prelude.{◌≡◌, ◌++◌, IfOk, string_bytes};
-ghost use Rattle.statement_rdf.specs.Role.{node_prefix, role_text, value_prefix};
+ghost use Rattle.statement_names.specs.Role.{node_prefix, role_text, value_prefix};
 
 use rdf_term::{CowText, OutOfMemory, Text};
 use rdf_vocabulary::Prefix;

@@ -2,8 +2,8 @@
 use Rattle.std.specs.Prelude.{ℕ, List, ◌++◌, codes}
 use Rattle.rdf_vocabulary.specs.declared.prefix.Prefix.{Prefix}
 use Rattle.rdf_vocabulary.specs.declared.prefix.Prefix.TheVariants.{Ps, Psv, Pq, Pqv, Pr, Prv}
-use Rattle.statement_rdf.specs.declared.role.Role.{Role}
-use Rattle.statement_rdf.specs.declared.role.Role.TheVariants.{Main, Qualifier, Reference}
+use Rattle.statement_names.specs.declared.role.Role.{Role}
+use Rattle.statement_names.specs.declared.role.Role.TheVariants.{Main, Qualifier, Reference}
 
 -- the namespace of the properties that lead to simple values
 abbrev pub value_prefix : Role → Prefix

@@ -13,7 +13,7 @@ use Rattle.entity_model.specs.declared.statement.Rank.TheVariants.{Deprecated, N
 use Rattle.entity_model.specs.declared.statement.Statement.{Statement}
 use Rattle.entity_model.specs.EntityId.{entity_cmp, entity_cmp_total, entity_cmp_same}
 use Rattle.rdf_vocabulary.proofs.Shared.{both}
-use Rattle.statement_rdf.specs.Ranking.{rank_number, is_ranked_above, is_best, IsBest}
+use Rattle.statement_ranks.specs.Ranking.{rank_number, is_ranked_above, is_best, IsBest}
 
 -- ids that their order does not tell apart are one id
 same_id : (x y : EntityId) → eq_by_cmp entity_cmp x y ≡ true → x ≡ y

@@ -2,7 +2,7 @@
 
 ghost use Rattle.std.specs.Prelude.{◌≡◌, ◌++◌, ◌∷◌, IfOk, IfSome, OnOk, string_bytes};
 ghost use Rattle.std.specs.List.{list_all};
-ghost use Rattle.statement_rdf.specs.Node.{is_node_char, name_byte, statement_name};
+ghost use Rattle.statement_names.specs.Node.{is_node_char, name_byte, statement_name};
 
 use rdf_term::{OutOfMemory, Text};
 use std::alloc::Global;

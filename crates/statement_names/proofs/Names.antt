@@ -5,7 +5,7 @@ use Rattle.std.specs.Str.{encode_utf8_all}
 use Rattle.std.proofs.lemmas.Bool.{cases_lt}
 use Rattle.std.proofs.lemmas.Bool.Decides.{nat_tests}
 use Rattle.std.proofs.lemmas.List.Concat.{flat_map-append}
-use Rattle.statement_rdf.specs.Node.{name_byte, name_char, statement_name}
+use Rattle.statement_names.specs.Node.{name_byte, name_char, statement_name}
 
 -- an ASCII character is its byte
 low : (c : ℕ) → c < 128 → name_byte c ≡ name_char c ∷ []

@@ -4,7 +4,7 @@ ghost use Rattle.std.specs.Prelude.{◌≡◌, ◌++◌, IfOk, OnOk, decimal, st
 ghost use Rattle.md5.specs.Md5.{Holds};
 ghost use Rattle.entity_model.specs.EntityId.{id_text};
 ghost use Rattle.rdf_vocabulary.specs.Fields.{field};
-ghost use Rattle.statement_rdf.specs.{Role.role_text, Snak.unknown_label};
+ghost use Rattle.statement_names.specs.{Label.unknown_label, Role.role_text};
 
 use crate::role::Role;
 use entity_model::Snak;

@@ -3,8 +3,8 @@ use Rattle.std.proofs.Common.{◌≡◌, take}
 use Rattle.std.specs.Prelude.{map}
 use Rattle.std.specs.BTreeMap.{get}
 use Rattle.entity_model.specs.EntityId.{entity_cmp}
-use Rattle.statement_rdf.specs.Ranking.{is_highest}
-use Rattle.statement_rdf.proofs.ranking.judge_all.Given as goal
+use Rattle.statement_ranks.specs.Ranking.{is_highest}
+use Rattle.statement_ranks.proofs.ranking.judge_all.Given as goal
 
 abbrev pub invariant-loop-statement : goal.invariant-loop-statement
 invariant-loop-statement l =

@@ -4,8 +4,8 @@ use Rattle.std.specs.BTreeMap.{get}
 use Rattle.std.specs.List.{list_any}
 use Rattle.entity_model.specs.declared.id.EntityId.{EntityId}
 use Rattle.entity_model.specs.EntityId.{entity_cmp}
-use Rattle.statement_rdf.specs.Ranking.{has_rank_above, is_ranked_above}
-use Rattle.statement_rdf.proofs.ranking.highest_ranks.Given as goal
+use Rattle.statement_ranks.specs.Ranking.{has_rank_above, is_ranked_above}
+use Rattle.statement_ranks.proofs.ranking.highest_ranks.Given as goal
 
 abbrev pub invariant-loop-statement : goal.invariant-loop-statement
 invariant-loop-statement l =

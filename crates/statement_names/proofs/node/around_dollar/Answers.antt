@@ -1,8 +1,8 @@
 -- A text that is split at another stands round it.
 use Rattle.std.proofs.Common.{◌≡◌, ◌≢◌, ℕ, List, [], ◌∷◌, ◌++◌, Bor}
 use Rattle.std.proofs.lemmas.Str.Pattern.{split_text_parts}
-use Rattle.statement_rdf.proofs.KeptParts.{where_some}
-use Rattle.statement_rdf.proofs.node.around_dollar.Goals as goal
+use Rattle.statement_names.proofs.KeptParts.{where_some}
+use Rattle.statement_names.proofs.node.around_dollar.Goals as goal
 
 pub returns : goal.returns
 returns c =

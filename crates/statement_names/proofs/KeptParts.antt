@@ -5,7 +5,7 @@ use Rattle.std.proofs.lemmas.List.Concat.{flat_map-append}
 use Rattle.std.specs.List.{list_all}
 use Rattle.std.proofs.lemmas.Bool.Decides.{nat_tests}
 use Rattle.rdf_vocabulary.proofs.Shared.{both}
-use Rattle.statement_rdf.specs.Node.{is_node_char, name_byte, statement_name}
+use Rattle.statement_names.specs.Node.{is_node_char, name_byte, statement_name}
 
 stands : (b : ℕ) → is_node_char b ≡ true → name_byte b ≡ b ∷ []
 stands b h = grind (arith, nat_tests)

@@ -14,7 +14,7 @@ use Rattle.rdf_vocabulary.specs.Fields.{hashed_name}
 use Rattle.rdf_vocabulary.proofs.Fit.{prefixed_fit}
 use Rattle.rdf_vocabulary.proofs.NamesFit.{hashed_name_letters, length-hashed_name, letters_iri}
 use Rattle.rdf_vocabulary.proofs.Shared.{both, chosen}
-use Rattle.statement_rdf.specs.Node.{is_continuation, is_node_char, name_byte, name_char, statement_name, statement_node, reference_node}
+use Rattle.statement_names.specs.Node.{is_continuation, is_node_char, name_byte, name_char, statement_name, statement_node, reference_node}
 
 -- what a byte of a statement's id becomes may stand in an IRI
 kept_fit : (c : ℕ) → is_node_char c ≡ true → is_iri_char c ≡ true

@@ -3,7 +3,7 @@
 ghost use Rattle.std.specs.Prelude.{◌≡◌, ℕ, [], ◌∷◌, ◌||◌, map, IfOk, OnOk};
 ghost use Rattle.std.specs.{BTreeMap.get, List.list_any};
 ghost use Rattle.entity_model.specs.{declared.id.EntityId.EntityId as Id, EntityId.entity_cmp};
-ghost use Rattle.statement_rdf.specs.Ranking.{has_rank_above, is_above, is_best, is_highest, is_ranked_above};
+ghost use Rattle.statement_ranks.specs.Ranking.{has_rank_above, is_above, is_best, is_highest, is_ranked_above};
 
 use entity_model::{EntityId, Rank, Statement};
 use rdf_term::{List, OutOfMemory};
