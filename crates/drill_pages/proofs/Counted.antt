@@ -28,7 +28,8 @@ use Rattle.statement_rdf.specs.Statement.{direct_content, head_triples, main_tri
 use Rattle.sitelinks.specs.Article.{article_triples}
 use Rattle.page_rdf.specs.Dataset.{dataset_term}
 use Rattle.statement_rdf.specs.Statements.{statements_triples}
-use Rattle.entity_rdf.specs.Dump.{entity_triples, spoken_triples}
+use Rattle.page_rdf.specs.Spoken.{spoken_triples}
+use Rattle.entity_rdf.specs.Dump.{entity_triples}
 use Rattle.drill.specs.Drill.{item}
 use Rattle.drill_pages.proofs.Parts.{HasNone, IsLabelled, IsSourced}
 use Rattle.drill_pages.proofs.Covered.{Covered, at_most, joined, none, own, said}

@@ -1,1 +1,4 @@
+mod Capitals
 pub mod Fit
+pub mod SpokenFit
+mod TypeNames

@@ -1,8 +1,8 @@
 -- The parts, capitalized one after the other.
 use Rattle.std.proofs.Common.{◌≡◌, [], ◌∙◌, string_bytes}
-use Rattle.entity_rdf.specs.Property.{capitalized}
-use Rattle.entity_rdf.proofs.Capitals.{made_of_shown}
-use Rattle.entity_rdf.proofs.property.type_name.Goals as goal
+use Rattle.page_rdf.specs.Property.{capitalized}
+use Rattle.page_rdf.proofs.Capitals.{made_of_shown}
+use Rattle.page_rdf.proofs.property.type_name.Goals as goal
 
 pub returns : goal.returns
 returns c =

@@ -1,8 +1,8 @@
 -- The triples of the predicates so far.
 use Rattle.std.proofs.Common.{take}
 use Rattle.triple_sink.specs.Gains.{Gains, KeepsFront}
-use Rattle.entity_rdf.specs.Property.{predicate_triples}
-use Rattle.entity_rdf.proofs.property.emit_predicates.Given as goal
+use Rattle.page_rdf.specs.Property.{predicate_triples}
+use Rattle.page_rdf.proofs.property.emit_predicates.Given as goal
 
 abbrev pub invariant-loop-said : goal.invariant-loop-said
 invariant-loop-said g l =

@@ -2,11 +2,11 @@
 
 ghost use Rattle.std.specs.Prelude.{OnOk};
 ghost use Rattle.triple_sink.specs.{Gains.Gains, Gains.KeepsFront, TermRef.meant};
-ghost use Rattle.entity_rdf.specs.{About.link_count, Counted.counted_dataset, Counted.counted_numbers};
+ghost use Rattle.page_rdf.specs.{About.link_count, Counted.counted_dataset, Counted.counted_numbers};
 
-use crate::counted::{Counted, Counts};
+use crate::counts::{Counted, Counts};
+use crate::dataset::{emit_change, emit_number, emit_page};
 use entity_model::{EntityId, IdKind};
-use page_rdf::{emit_change, emit_number, emit_page};
 use rdf_term::OutOfMemory;
 use rdf_vocabulary::{Predicate, Prefix};
 use triple_sink::{Setting, TermRef, TripleSink};

@@ -3,8 +3,8 @@ use Rattle.std.proofs.Common.{take}
 use Rattle.std.specs.List.{flat_map}
 use Rattle.triple_sink.specs.Gains.{Gains, KeepsFront}
 use Rattle.triple_sink.specs.TermRef.{meant}
-use Rattle.entity_rdf.specs.About.{label_triples}
-use Rattle.entity_rdf.proofs.about.emit_labels.Given as goal
+use Rattle.page_rdf.specs.About.{label_triples}
+use Rattle.page_rdf.proofs.about.emit_labels.Given as goal
 
 abbrev pub invariant-loop-label : goal.invariant-loop-label
 invariant-loop-label g l =

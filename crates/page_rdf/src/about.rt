@@ -3,10 +3,10 @@
 ghost use Rattle.std.specs.Prelude.{◌≡◌, OnOk};
 ghost use Rattle.std.specs.List.{flat_map};
 ghost use Rattle.triple_sink.specs.{Gains.Gains, Gains.KeepsFront, TermRef.meant};
-ghost use Rattle.entity_rdf.specs.{About.class_of, About.label_triples, About.tagged_triples, Dump.text_triples};
+ghost use Rattle.page_rdf.specs.About.{class_of, label_triples, tagged_triples, text_triples};
 
+use crate::texts::text_ref;
 use entity_model::{Entity, EntityId, IdKind, Tagged};
-use page_rdf::text_ref;
 use rdf_term::OutOfMemory;
 use rdf_vocabulary::{Predicate, Prefix, Resource};
 use triple_sink::{Setting, TermRef, TripleSink, emit_about, emit_class};

@@ -6,7 +6,7 @@ use Rattle.std.proofs.lemmas.Bool.{cases_lt, lt-ltb, le-ltb}
 use Rattle.std.proofs.lemmas.Str.{encode_ascii, length-encode, len_utf8_bounds}
 use Rattle.rising.specs.Rising.{Each}
 use Rattle.rdf_term.proofs.HighBytes.{encode_high}
-use Rattle.entity_rdf.specs.Property.{capitalized}
+use Rattle.page_rdf.specs.Property.{capitalized}
 use lib.Utf8.{encode}
 
 -- upper case changes ASCII alone

@@ -5,8 +5,8 @@ use Rattle.std.proofs.lemmas.Result.{on_ok_weaker}
 use Rattle.triple_sink.specs.Gains.{Gains}
 use Rattle.triple_sink.proofs.Gained.{gains_then}
 use Rattle.rdf_vocabulary.specs.Prefix.{entity_term}
-use Rattle.entity_rdf.specs.Property.{datatype_triples, other_predicates, property_triples_of, value_predicates}
-use Rattle.entity_rdf.proofs.property.emit_property.Goals as goal
+use Rattle.page_rdf.specs.Property.{datatype_triples, other_predicates, property_triples_of, value_predicates}
+use Rattle.page_rdf.proofs.property.emit_property.Goals as goal
 
 pub returns-in_ok-emit_datatype-in-P-clause-gains : goal.returns-in_ok-emit_datatype-in-P-clause-gains
 returns-in_ok-emit_datatype-in-P-clause-gains g c =

@@ -4,7 +4,7 @@ ghost use Rattle.std.specs.Prelude.{◌≡◌, [], ◌∷◌, ◌++◌, IfOk, On
 ghost use Rattle.std.specs.{Option.option_copied, List.flat_map, List.list_all, List.slice_split};
 ghost use Rattle.rdf_term.specs.Grammar.{is_word};
 ghost use Rattle.triple_sink.specs.{Gains.Gains, Gains.KeepsFront, TermRef.meant};
-ghost use Rattle.entity_rdf.specs.Property.{capitalized, datatype_triples, is_datatype_char, is_hyphen, predicate_triple, predicate_triples, property_triples, type_name};
+ghost use Rattle.page_rdf.specs.Property.{capitalized, datatype_triples, is_datatype_char, is_hyphen, predicate_triple, predicate_triples, property_triples, type_name};
 
 use entity_model::{EntityId, IdKind};
 use rdf_term::{CowText, OutOfMemory};

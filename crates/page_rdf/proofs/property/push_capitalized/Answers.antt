@@ -1,9 +1,9 @@
 -- The first character in upper case, and the rest.
 use Rattle.std.proofs.Common.{◌++◌, ap, sym, ◌∙◌, string_bytes, encode_utf8}
 use Rattle.std.proofs.lemmas.List.{append_assoc}
-use Rattle.entity_rdf.specs.Property.{capitalized}
-use Rattle.entity_rdf.proofs.Capitals.{capital}
-use Rattle.entity_rdf.proofs.property.push_capitalized.Goals as goal
+use Rattle.page_rdf.specs.Property.{capitalized}
+use Rattle.page_rdf.proofs.Capitals.{capital}
+use Rattle.page_rdf.proofs.property.push_capitalized.Goals as goal
 
 pub returns : goal.returns
 returns c =

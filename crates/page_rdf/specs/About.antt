@@ -1,5 +1,6 @@
 -- What a page says of its entity, its class and its texts, and what an item's or a property's page says of its dataset.
 use Rattle.std.specs.Prelude.{ℕ, List, [], ◌∷◌, ◌++◌, length}
+use Rattle.std.specs.List.{flat_map}
 use Rattle.rdf_term.specs.declared.term.Term.{Term}
 use Rattle.rdf_term.specs.declared.triple.Triple.{Triple}
 use Rattle.entity_model.specs.declared.id.EntityId.{EntityId}
@@ -40,6 +41,14 @@ description_triples entity t = about entity Say.Description (tagged_term t) ∷ 
 
 abbrev pub alias_triples : Term → Tagged → List Triple
 alias_triples entity t = about entity Say.AltLabel (tagged_term t) ∷ []
+
+-- the class and the texts of an entity
+abbrev pub text_triples : EntityId → Entity → List Triple
+text_triples x e =
+    class_triples x
+    ++ flat_map (label_triples (entity_term x)) e.labels
+    ++ flat_map (description_triples (entity_term x)) e.descriptions
+    ++ flat_map (alias_triples (entity_term x)) e.aliases
 
 -- how many site links an item has
 abbrev pub link_count : IdKind → Term → ℕ → List Triple

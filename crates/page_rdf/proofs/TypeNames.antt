@@ -7,7 +7,7 @@ use Rattle.std.specs.Char.{to_ascii_uppercase}
 use Rattle.std.specs.List.{flat_map, list_all, slice_split, onto_first}
 use Rattle.rdf_term.specs.Grammar.{is_iri, is_iri_char, is_word}
 use Rattle.rdf_vocabulary.proofs.Shared.{both}
-use Rattle.entity_rdf.specs.Property.{capitalized, is_datatype_char, is_hyphen, type_name}
+use Rattle.page_rdf.specs.Property.{capitalized, is_datatype_char, is_hyphen, type_name}
 
 -- each character of each part is one of a datatype
 abbrev are_parts : List (List ℕ) → Bool
