@@ -23,7 +23,7 @@ use Rattle.rdf_vocabulary.specs.declared.resource.Resource.TheVariants as Classe
 use Rattle.entity_model.specs.declared.lexeme.Lexeme.{Lexeme}
 use Rattle.entity_model.specs.declared.lexeme.Part.{Part}
 use Rattle.rdf_vocabulary.specs.declared.predicate.Predicate.{Predicate}
-use Rattle.lexeme_rdf.specs.Part.{part_term}
+use Rattle.lexeme_page_rdf.specs.Part.{part_term}
 
 -- what is said of a lexeme itself
 pub data EntryGives (x : EntityId) (l : Lexeme) (t : Triple) : Type 0 where

@@ -3,7 +3,7 @@
 ghost use Rattle.std.specs.Prelude.{OnOk};
 ghost use Rattle.std.specs.List.{flat_map};
 ghost use Rattle.triple_sink.specs.{Gains.Gains, Gains.KeepsFront, TermRef.meant};
-ghost use Rattle.lexeme_rdf.specs.Texts.{text_triples};
+ghost use Rattle.lexeme_page_rdf.specs.Texts.{text_triples};
 
 use entity_model::Tagged;
 use page_rdf::text_ref;
@@ -12,7 +12,7 @@ use rdf_vocabulary::Predicate;
 use triple_sink::{Setting, TermRef, TripleSink, emit_about};
 
 /// Emits the texts of the node, each by the predicate and as a label.
-pub(crate) fn emit_texts<S: TripleSink>(
+pub fn emit_texts<S: TripleSink>(
     setting: Setting,
     node: &TermRef<'_>,
     predicate: Predicate,

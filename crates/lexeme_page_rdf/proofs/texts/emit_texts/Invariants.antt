@@ -3,8 +3,8 @@ use Rattle.std.proofs.Common.{take}
 use Rattle.std.specs.List.{flat_map}
 use Rattle.triple_sink.specs.Gains.{Gains, KeepsFront}
 use Rattle.triple_sink.specs.TermRef.{meant}
-use Rattle.lexeme_rdf.specs.Texts.{text_triples}
-use Rattle.lexeme_rdf.proofs.texts.emit_texts.Given as goal
+use Rattle.lexeme_page_rdf.specs.Texts.{text_triples}
+use Rattle.lexeme_page_rdf.proofs.texts.emit_texts.Given as goal
 
 abbrev pub invariant-loop-text : goal.invariant-loop-text
 invariant-loop-text g l =

@@ -3,8 +3,8 @@ use Rattle.std.proofs.Common.{take}
 use Rattle.std.specs.List.{flat_map}
 use Rattle.triple_sink.specs.Gains.{Gains, KeepsFront}
 use Rattle.triple_sink.specs.TermRef.{meant}
-use Rattle.lexeme_rdf.specs.Parts.{triples_of}
-use Rattle.lexeme_rdf.proofs.parts.emit_parts.Given as goal
+use Rattle.lexeme_page_rdf.specs.Parts.{triples_of}
+use Rattle.lexeme_page_rdf.proofs.parts.emit_parts.Given as goal
 
 abbrev pub invariant-loop-part : goal.invariant-loop-part
 invariant-loop-part g l =

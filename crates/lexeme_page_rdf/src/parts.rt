@@ -3,7 +3,7 @@
 ghost use Rattle.std.specs.Prelude.{OnOk};
 ghost use Rattle.std.specs.List.{flat_map};
 ghost use Rattle.triple_sink.specs.{Gains.Gains, Gains.KeepsFront, TermRef.meant};
-ghost use Rattle.lexeme_rdf.specs.{Form.feature_triples, Parts.head_of, Parts.triples_of};
+ghost use Rattle.lexeme_page_rdf.specs.{Form.feature_triples, Parts.head_of, Parts.triples_of};
 
 use crate::texts::emit_texts;
 use entity_model::{EntityId, Part};
@@ -13,13 +13,15 @@ use triple_sink::{Setting, TermRef, TripleSink, emit_about, emit_class};
 
 /// The two kinds of parts that a lexeme has.
 #[derive(Clone, Copy, Debug, PartialEq, Eq)]
-pub(crate) enum PartKind {
+pub enum PartKind {
+    /// A form.
     Form,
+    /// A sense.
     Sense,
 }
 
 /// Emits the forms or the senses of the lexeme, each without its statements.
-pub(crate) fn emit_parts<S: TripleSink>(
+pub fn emit_parts<S: TripleSink>(
     setting: Setting,
     entity: &TermRef<'_>,
     kind: PartKind,

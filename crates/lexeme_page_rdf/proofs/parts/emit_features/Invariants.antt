@@ -3,8 +3,8 @@ use Rattle.std.proofs.Common.{take}
 use Rattle.std.specs.List.{flat_map}
 use Rattle.triple_sink.specs.Gains.{Gains, KeepsFront}
 use Rattle.triple_sink.specs.TermRef.{meant}
-use Rattle.lexeme_rdf.specs.Form.{feature_triples}
-use Rattle.lexeme_rdf.proofs.parts.emit_features.Given as goal
+use Rattle.lexeme_page_rdf.specs.Form.{feature_triples}
+use Rattle.lexeme_page_rdf.proofs.parts.emit_features.Given as goal
 
 abbrev pub invariant-loop-feature : goal.invariant-loop-feature
 invariant-loop-feature g l =

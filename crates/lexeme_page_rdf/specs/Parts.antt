@@ -3,10 +3,10 @@ use Rattle.std.specs.Prelude.{List}
 use Rattle.rdf_term.specs.declared.term.Term.{Term}
 use Rattle.rdf_term.specs.declared.triple.Triple.{Triple}
 use Rattle.entity_model.specs.declared.lexeme.Part.{Part}
-use Rattle.lexeme_rdf.specs.declared.parts.PartKind.{PartKind}
-use Rattle.lexeme_rdf.specs.declared.parts.PartKind.TheVariants as Kind
-use Rattle.lexeme_rdf.specs.Form.{form_head, form_triples}
-use Rattle.lexeme_rdf.specs.Sense.{sense_head, sense_triples}
+use Rattle.lexeme_page_rdf.specs.declared.parts.PartKind.{PartKind}
+use Rattle.lexeme_page_rdf.specs.declared.parts.PartKind.TheVariants as Kind
+use Rattle.lexeme_page_rdf.specs.Form.{form_head, form_triples}
+use Rattle.lexeme_page_rdf.specs.Sense.{sense_head, sense_triples}
 
 -- the lexeme has the part; the part's classes
 abbrev pub head_of : PartKind → Term → Term → List Triple

@@ -5,11 +5,11 @@ use Rattle.std.proofs.lemmas.Result.{on_ok_weaker}
 use Rattle.triple_sink.specs.TermRef.{meant}
 use Rattle.triple_sink.proofs.Gained.{gains_then}
 use Rattle.rdf_vocabulary.specs.declared.predicate.Predicate.TheVariants.{Definition, Representation}
-use Rattle.lexeme_rdf.specs.Form.{feature_triples, form_head}
-use Rattle.lexeme_rdf.specs.Part.{part_term}
-use Rattle.lexeme_rdf.specs.Sense.{sense_head}
-use Rattle.lexeme_rdf.specs.Texts.{text_triples}
-use Rattle.lexeme_rdf.proofs.parts.emit_part.Goals as goal
+use Rattle.lexeme_page_rdf.specs.Form.{feature_triples, form_head}
+use Rattle.lexeme_page_rdf.specs.Part.{part_term}
+use Rattle.lexeme_page_rdf.specs.Sense.{sense_head}
+use Rattle.lexeme_page_rdf.specs.Texts.{text_triples}
+use Rattle.lexeme_page_rdf.proofs.parts.emit_part.Goals as goal
 
 pub returns-in_ok-emit_texts-in-Form-clause-gains : goal.returns-in_ok-emit_texts-in-Form-clause-gains
 returns-in_ok-emit_texts-in-Form-clause-gains g c =

@@ -2,7 +2,7 @@
 
 ghost use Rattle.std.specs.Prelude.{OnOk};
 ghost use Rattle.triple_sink.specs.Gains.{Gains, KeepsFront};
-ghost use Rattle.lexeme_rdf.specs.Page.{lexeme_page_triples};
+ghost use Rattle.lexeme_page_rdf.specs.Page.{lexeme_page_triples};
 
 use entity_model::{EntityId, Lexeme};
 use page_rdf::{emit_change, emit_numbers, emit_page};
@@ -11,7 +11,7 @@ use rdf_vocabulary::Prefix;
 use triple_sink::{Setting, TermRef, TripleSink};
 
 /// Emits what is said of the dataset of the revision's page. A lexeme has no site links, so no count of them.
-pub(crate) fn emit_lexeme_page<S: TripleSink>(
+pub fn emit_lexeme_page<S: TripleSink>(
     setting: Setting,
     id: EntityId,
     rev: u64,

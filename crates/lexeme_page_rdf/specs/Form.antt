@@ -8,8 +8,8 @@ use Rattle.rdf_vocabulary.specs.Prefix.{entity_term}
 use Rattle.rdf_vocabulary.specs.declared.resource.Resource.TheVariants as Classes
 use Rattle.entity_model.specs.declared.lexeme.Part.{Part}
 use Rattle.rdf_vocabulary.specs.declared.predicate.Predicate.TheVariants as Say
-use Rattle.lexeme_rdf.specs.Part.{part_term}
-use Rattle.lexeme_rdf.specs.Texts.{text_triples}
+use Rattle.lexeme_page_rdf.specs.Part.{part_term}
+use Rattle.lexeme_page_rdf.specs.Texts.{text_triples}
 use Rattle.rdf_vocabulary.specs.Resource.{class_triple}
 use Rattle.rdf_vocabulary.specs.Predicate.{about}
 

@@ -2,7 +2,7 @@
 
 ghost use Rattle.std.specs.Prelude.{OnOk};
 ghost use Rattle.triple_sink.specs.Gains.{Gains, KeepsFront};
-ghost use Rattle.lexeme_rdf.specs.Entry.{entry_triples};
+ghost use Rattle.lexeme_page_rdf.specs.Entry.{entry_triples};
 
 use entity_model::{EntityId, Lexeme};
 use rdf_term::OutOfMemory;
@@ -10,7 +10,7 @@ use rdf_vocabulary::{Predicate, Prefix, Resource};
 use triple_sink::{Setting, TermRef, TripleSink, emit_about, emit_class};
 
 /// Emits the classes of the lexeme, its language and its lexical category.
-pub(crate) fn emit_entry<S: TripleSink>(
+pub fn emit_entry<S: TripleSink>(
     setting: Setting,
     id: EntityId,
     lexeme: &Lexeme,
