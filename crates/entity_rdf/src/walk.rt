@@ -5,7 +5,6 @@ ghost use Rattle.std.specs.List.{flat_map};
 ghost use Rattle.entity_model.specs.Document.{IsDocumentOf};
 ghost use Rattle.sitelinks.specs.Article.{article_triples};
 ghost use Rattle.triple_sink.specs.Gains.{Gains, KeepsFront};
-ghost use Rattle.page_rdf.specs.Spoken.{counted_spoken};
 ghost use Rattle.entity_rdf.specs.{Counted.counted_triples, Dump.dump, Dump.redirect_triples};
 
 use entity_model::{Document, EntityId, Link};

@@ -9,7 +9,8 @@ use rdf_term::OutOfMemory;
 use rdf_vocabulary::{Predicate, Prefix, Resource};
 use triple_sink::{Setting, TermRef, TripleSink, emit_about, emit_class};
 
-/// Emits the classes of the lexeme, its language and its lexical category.
+/// Emits the classes of the lexeme, its language and its lexical category. After `OutOfMemory` the sink holds what it held, and perhaps
+/// more behind that.
 pub fn emit_entry<S: TripleSink>(
     setting: Setting,
     id: EntityId,

@@ -10,7 +10,8 @@ use rdf_term::OutOfMemory;
 use rdf_vocabulary::Prefix;
 use triple_sink::{Setting, TermRef, TripleSink};
 
-/// Emits what is said of the dataset of the revision's page. A lexeme has no site links, so no count of them.
+/// Emits what is said of the dataset of the revision's page. A lexeme has no site links, so no count of them. After `OutOfMemory` the sink
+/// holds what it held, and perhaps more behind that.
 pub fn emit_lexeme_page<S: TripleSink>(
     setting: Setting,
     id: EntityId,

@@ -20,7 +20,8 @@ pub enum PartKind {
     Sense,
 }
 
-/// Emits the forms or the senses of the lexeme, each without its statements.
+/// Emits the forms or the senses of the lexeme, each without its statements. After `OutOfMemory` the sink holds what it held, and perhaps
+/// more behind that.
 pub fn emit_parts<S: TripleSink>(
     setting: Setting,
     entity: &TermRef<'_>,

@@ -11,7 +11,8 @@ use rdf_term::OutOfMemory;
 use rdf_vocabulary::Predicate;
 use triple_sink::{Setting, TermRef, TripleSink, emit_about};
 
-/// Emits the texts of the node, each by the predicate and as a label.
+/// Emits the texts of the node, each by the predicate and as a label. After `OutOfMemory` the sink holds what it held, and perhaps more
+/// behind that.
 pub fn emit_texts<S: TripleSink>(
     setting: Setting,
     node: &TermRef<'_>,

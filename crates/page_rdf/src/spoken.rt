@@ -12,8 +12,9 @@ use entity_model::EntityId;
 use rdf_term::OutOfMemory;
 use triple_sink::{Setting, TripleSink};
 
-/// Emits what the part of the page of an item or a property says but for its site links and statements: the class and the texts, the dataset
-/// with the counts of the whole, and the predicates of a property.
+/// Emits what a part of the document of an item or a property says but for its site links and statements, or what the whole says: the class
+/// and the texts, the dataset with the counts of the whole, and the predicates of a property. After `OutOfMemory` the sink holds what it held,
+/// and perhaps more behind that.
 pub fn emit_spoken<S: TripleSink>(
     setting: Setting,
     id: EntityId,
