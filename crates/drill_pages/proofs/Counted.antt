@@ -20,15 +20,16 @@ use Rattle.rdf_vocabulary.specs.Prefix.{entity_term, prefixed}
 use Rattle.value_nodes.specs.Name.{node_name}
 use Rattle.value_nodes.specs.Nodes.{bound_triples, named_triples, node_triples, precision_triples, value_part_triples}
 use Rattle.value_nodes.specs.Said.{object_triples}
-use Rattle.statement_rdf.specs.declared.role.Role.{Role}
-use Rattle.statement_rdf.specs.declared.role.Role.TheVariants as Roles
-use Rattle.statement_rdf.specs.Node.{reference_node, statement_node}
+use Rattle.statement_names.specs.declared.role.Role.{Role}
+use Rattle.statement_names.specs.declared.role.Role.TheVariants as Roles
+use Rattle.statement_names.specs.Node.{reference_node, statement_node}
 use Rattle.statement_rdf.specs.Snak.{content_triples, link_triples, snak_triples}
 use Rattle.statement_rdf.specs.Statement.{direct_content, head_triples, main_triples, reference_triples, source_triples, statement_triples, where_best}
 use Rattle.sitelinks.specs.Article.{article_triples}
 use Rattle.page_rdf.specs.Dataset.{dataset_term}
-use Rattle.page_rdf.specs.Statements.{statements_triples}
-use Rattle.entity_rdf.specs.Dump.{entity_triples, spoken_triples}
+use Rattle.statement_rdf.specs.Statements.{statements_triples}
+use Rattle.page_rdf.specs.Spoken.{spoken_triples}
+use Rattle.entity_rdf.specs.Dump.{entity_triples}
 use Rattle.drill.specs.Drill.{item}
 use Rattle.drill_pages.proofs.Parts.{HasNone, IsLabelled, IsSourced}
 use Rattle.drill_pages.proofs.Covered.{Covered, at_most, joined, none, own, said}

@@ -18,15 +18,16 @@ use Rattle.entity_change.specs.Changes.{AreSeparate, EntityChanges, StatementCha
 use Rattle.munger.specs.Munging.{munged}
 use Rattle.rdf_vocabulary.specs.Prefix.{entity_term}
 use Rattle.sitelinks.specs.Article.{article_triples}
-use Rattle.statement_rdf.specs.Ranking.{is_best, is_ranked_above, rank_number}
+use Rattle.statement_ranks.specs.Ranking.{is_best, is_ranked_above, rank_number}
 use Rattle.statement_rdf.specs.Statement.{statement_triples}
-use Rattle.page_rdf.specs.Statements.{judged_triples, statements_triples}
-use Rattle.entity_rdf.specs.About.{alias_triples, class_triples, description_triples, label_triples}
+use Rattle.statement_rdf.specs.Statements.{judged_triples, statements_triples}
+use Rattle.page_rdf.specs.About.{alias_triples, class_triples, description_triples, label_triples, text_triples}
 use Rattle.entity_rdf.specs.Changing.{kept_list}
-use Rattle.entity_rdf.specs.Counted.{counted_dataset, counted_kept, counted_triples, counts_of}
-use Rattle.entity_rdf.specs.declared.counted.Counts.{Counts}
-use Rattle.entity_rdf.specs.Dump.{entity_triples, text_triples}
-use Rattle.entity_rdf.specs.Property.{property_triples}
+use Rattle.page_rdf.specs.Counted.{counted_dataset, counts_of}
+use Rattle.entity_rdf.specs.Counted.{counted_kept, counted_triples}
+use Rattle.page_rdf.specs.declared.counts.Counts.{Counts}
+use Rattle.entity_rdf.specs.Dump.{entity_triples}
+use Rattle.page_rdf.specs.Property.{property_triples}
 
 -- a test that no element of the second list passes asks the first one alone
 any_first : {A : Type 0} (test : A → Bool) (xs ys zs : List A) → Merges xs ys zs → ((y : A) → In y ys → test y ≡ false) → list_any test zs ≡ list_any test xs

@@ -6,8 +6,8 @@ use Rattle.entity_model.specs.declared.statement.Statement.{Statement}
 use Rattle.entity_model.specs.declared.entity.Entity.{Entity}
 use Rattle.entity_change.specs.Changes.{EntityChanges}
 use Rattle.page_rdf.specs.Dataset.{is_identifier}
-use Rattle.entity_rdf.specs.declared.counted.Counts.{Counts}
-use Rattle.entity_rdf.specs.Counted.{AreAfter, counts_of}
+use Rattle.page_rdf.specs.declared.counts.Counts.{Counts}
+use Rattle.page_rdf.specs.Counted.{AreAfter, counts_of}
 
 -- a merged list is as long as its parts together
 length_merged : {A : Type 0} (xs ys zs : List A) → Merges xs ys zs → length zs ≡ length xs + length ys

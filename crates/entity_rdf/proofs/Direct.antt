@@ -16,7 +16,7 @@ use Rattle.munger.specs.Munging.{munge, munged}
 use Rattle.munger.proofs.Fit.{munge_fit}
 use Rattle.munger.proofs.MungedList.{munge_of_list}
 use Rattle.entity_rdf.specs.Dump.{dump}
-use Rattle.page_rdf.proofs.Each.{of_each_member, of_member}
+use Rattle.statement_rdf.proofs.Each.{of_each_member, of_member}
 use Rattle.entity_rdf.proofs.Fit.{dump_fit}
 use Rattle.entity_rdf.proofs.Labels.{dump_labels}
 

@@ -12,15 +12,16 @@ use Rattle.entity_model.specs.declared.document.Document.{Document}
 use Rattle.entity_model.specs.declared.document.Document.TheVariants.{Entity as AnEntity, Redirect, Lexeme as ALexeme}
 use Rattle.entity_model.specs.declared.mapping.MappingVersion.{MappingVersion}
 use Rattle.rdf_vocabulary.specs.Prefix.{entity_term}
-use Rattle.statement_rdf.specs.Ranking.{is_best}
+use Rattle.statement_ranks.specs.Ranking.{is_best}
 use Rattle.statement_rdf.proofs.Given.{statement_rules}
 use Rattle.statement_rdf.proofs.Members.{in_front, in_back, in_either, in_flat_map, flat_map_in}
 use Rattle.page_rdf.specs.Dataset.{change_triples, dataset_term, number_triples, page_triples}
-use Rattle.page_rdf.specs.Statements.{judged_triples, statements_triples}
+use Rattle.statement_rdf.specs.Statements.{judged_triples, statements_triples}
 use Rattle.lexeme_rdf.proofs.Given.{lexdump_rules}
-use Rattle.entity_rdf.specs.About.{alias_triples, class_triples, dataset_triples, description_triples, label_triples, link_count as link_counts}
-use Rattle.entity_rdf.specs.Property.{datatype_triples, other_predicates, property_triples, property_triples_of, value_predicates}
-use Rattle.entity_rdf.specs.Dump.{dump, entity_triples, spoken_triples, text_triples}
+use Rattle.page_rdf.specs.About.{alias_triples, class_triples, dataset_triples, description_triples, label_triples, link_count as link_counts, text_triples}
+use Rattle.page_rdf.specs.Property.{datatype_triples, other_predicates, property_triples, property_triples_of, value_predicates}
+use Rattle.page_rdf.specs.Spoken.{spoken_triples}
+use Rattle.entity_rdf.specs.Dump.{dump, entity_triples}
 use Rattle.sitelinks.specs.Article.{article_triples}
 use Rattle.entity_rdf.specs.Gives.{Gives, EntityGives, class, label, preferred_label, name, description, alternative_label, dataset, dataset_about, license, format, revision, statement_count, identifier_count, link_count, modified, property_type, value_predicate, other_predicate, article, statement}
 

@@ -21,9 +21,9 @@ use Rattle.munger.specs.Short.{HasShortLabels}
 use Rattle.munger.proofs.Fit.{sorted_each}
 use Rattle.entity_rdf.specs.Dump.{dump}
 use Rattle.entity_rdf.specs.Gives.{Gives, EntityGives, class, label, preferred_label, name, description, alternative_label, dataset, dataset_about, license, format, revision, statement_count, identifier_count, link_count, modified, property_type, value_predicate, other_predicate, article, statement}
-use Rattle.entity_rdf.specs.Property.{is_datatype_char, other_predicates, type_triples, value_predicates}
-use Rattle.page_rdf.proofs.Each.{of_each_member, of_member}
-use Rattle.page_rdf.proofs.Labels.{AreShort, said, statement_short, tagged_short}
+use Rattle.page_rdf.specs.Property.{is_datatype_char, other_predicates, type_triples, value_predicates}
+use Rattle.statement_rdf.proofs.Each.{of_each_member, of_member}
+use Rattle.statement_rdf.proofs.Labels.{AreShort, said, statement_short, tagged_short}
 use Rattle.lexeme_rdf.proofs.Labels.{lexeme_short}
 use Rattle.entity_rdf.proofs.Given.{dump_rules}
 

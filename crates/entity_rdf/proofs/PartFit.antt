@@ -18,9 +18,10 @@ use Rattle.entity_model.specs.declared.entity.Entity.{Entity}
 use Rattle.entity_model.specs.Document.{IsSmall}
 use Rattle.entity_model.specs.declared.mapping.MappingVersion.{MappingVersion}
 use Rattle.entity_change.specs.Changes.{EntityChanges}
-use Rattle.page_rdf.proofs.Each.{of_each_member, of_member}
+use Rattle.statement_rdf.proofs.Each.{of_each_member, of_member}
 use Rattle.entity_rdf.specs.Changing.{kept_list}
-use Rattle.entity_rdf.specs.Counted.{counted_kept, counts_of}
+use Rattle.page_rdf.specs.Counted.{counts_of}
+use Rattle.entity_rdf.specs.Counted.{counted_kept}
 use Rattle.entity_rdf.proofs.Balance.{come_part, part_within}
 use Rattle.entity_rdf.proofs.Direct.{direct_list_fit}
 

@@ -11,22 +11,9 @@ use Rattle.rdf_vocabulary.specs.declared.predicate.Predicate.TheVariants as Say
 use Rattle.rdf_vocabulary.specs.Predicate.{about}
 use Rattle.rdf_vocabulary.specs.Prefix.{entity_term}
 use Rattle.sitelinks.specs.Article.{article_triples}
-use Rattle.entity_rdf.specs.About.{alias_triples, class_triples, dataset_triples, description_triples, label_triples}
-use Rattle.entity_rdf.specs.Property.{property_triples}
+use Rattle.page_rdf.specs.Spoken.{spoken_triples}
 use Rattle.lexeme_rdf.specs.Dump.{lexdump}
-use Rattle.page_rdf.specs.Statements.{statements_triples}
-
--- the class and the texts of an entity
-abbrev pub text_triples : EntityId → Entity → List Triple
-text_triples x e =
-    class_triples x
-    ++ flat_map (label_triples (entity_term x)) e.labels
-    ++ flat_map (description_triples (entity_term x)) e.descriptions
-    ++ flat_map (alias_triples (entity_term x)) e.aliases
-
--- what a page says but for its site links and statements
-abbrev pub spoken_triples : EntityId → ℕ → Entity → List Triple
-spoken_triples x rev e = text_triples x e ++ dataset_triples x rev e ++ property_triples x e.datatype
+use Rattle.statement_rdf.specs.Statements.{statements_triples}
 
 -- all that an entity's page says
 abbrev pub entity_triples : MappingVersion → EntityId → ℕ → Entity → List Triple

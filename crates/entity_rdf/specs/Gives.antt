@@ -21,12 +21,12 @@ use Rattle.rdf_vocabulary.specs.Prefix.{entity_term}
 use Rattle.rdf_vocabulary.specs.Resource.{class_triple, resource_term}
 use Rattle.sitelinks.specs.Article.{article_triples}
 use Rattle.statement_rdf.specs.Gives.{StatementGives}
-use Rattle.statement_rdf.specs.Ranking.{is_best}
+use Rattle.statement_ranks.specs.Ranking.{is_best}
 use Rattle.lexeme_rdf.specs.Gives.{LexemeGives}
 use Rattle.page_rdf.specs.Dataset.{dataset_term, format_version, identifiers, number_term}
 use Rattle.page_rdf.specs.Texts.{tagged_term}
-use Rattle.entity_rdf.specs.About.{class_of}
-use Rattle.entity_rdf.specs.Property.{other_predicates, type_triples, value_predicates}
+use Rattle.page_rdf.specs.About.{class_of}
+use Rattle.page_rdf.specs.Property.{other_predicates, type_triples, value_predicates}
 
 -- the document of an entity says the triple
 pub data EntityGives (version : MappingVersion) (x : EntityId) (rev : ℕ) (e : Entity) (t : Triple) : Type 0 where

@@ -1,5 +1,3 @@
-pub mod About
-pub mod Property
 pub mod Dump
 pub mod Gives
 pub mod Keeps

@@ -8,7 +8,8 @@ ghost use Rattle.entity_model.specs.{declared.id.EntityId.EntityId, declared.ent
 ghost use Rattle.entity_model.specs.{declared.document.Document.TheVariants.Entity as AnEntity, Document.IsSmall};
 ghost use Rattle.entity_model.specs.declared.mapping.MappingVersion.{MappingVersion};
 ghost use Rattle.entity_change.specs.Changes.{EntityChanges};
-ghost use Rattle.entity_rdf.specs.{Changing.kept_list, Counted.AreAfter, Counted.counted_kept, Counted.counts_of};
+ghost use Rattle.page_rdf.specs.Counted.{AreAfter, counts_of};
+ghost use Rattle.entity_rdf.specs.{Changing.kept_list, Counted.counted_kept};
 
 /// What is kept of the new document and of the parts that are gone comes to what is kept of the old one and of the parts that came,
 /// each triple as many times. A part says how many statements and links its whole document has.

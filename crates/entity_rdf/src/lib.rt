@@ -1,24 +1,20 @@
 //! The RDF of entity pages ("Wikibase RDF Dump Format").
 //!
-//! `about` has what a page says of its entity, `dataset` what it says of itself, and `property` what a property's page says
-//! of its predicates; `walk` puts the rules together with those of lexemes. `dump` has what a walk makes, of the dump
+//! `walk` puts the rules of pages, site links and statements together with those of lexemes. `dump` has what a walk makes, of the dump
 //! and of what munging leaves of it, as sets and as texts, `room` how much room the texts get at first, and `laws` what
 //! holds of the rules. `counted` has what a part of a document says, with the counts of the whole, and `change_laws` what its triples
 //! have to do with those of the whole.
 #![tactic(auto)]
 
-mod about;
 mod change_laws;
 mod counted;
-mod dataset;
 mod dump;
 mod laws;
-mod property;
 mod room;
 mod walk;
 
 pub use change_laws::{counts_change, kept_triples_balance, parts_are_fit};
-pub use counted::{Counted, Counts, counted_texts};
+pub use counted::counted_texts;
 pub use dump::{direct_texts, direct_triples, dump_triples};
 pub use laws::{dump_triples_are_given, kept_triples_are_left_of_given_ones};
 pub use walk::emit_dump;

@@ -5,18 +5,15 @@ ghost use Rattle.std.specs.List.{flat_map};
 ghost use Rattle.entity_model.specs.Document.{IsDocumentOf};
 ghost use Rattle.sitelinks.specs.Article.{article_triples};
 ghost use Rattle.triple_sink.specs.Gains.{Gains, KeepsFront};
-ghost use Rattle.entity_rdf.specs.{Counted.counted_spoken, Counted.counted_triples, Dump.dump, Dump.redirect_triples};
+ghost use Rattle.entity_rdf.specs.{Counted.counted_triples, Dump.dump, Dump.redirect_triples};
 
-use crate::about::emit_texts;
-use crate::counted::{Counted, Counts};
-use crate::dataset::emit_dataset;
-use crate::property::emit_property;
 use entity_model::{Document, EntityId, Link};
 use lexeme_rdf::emit_lexeme;
-use page_rdf::emit_statements;
+use page_rdf::{Counted, Counts, emit_spoken};
 use rdf_term::OutOfMemory;
 use rdf_vocabulary::{Predicate, Prefix};
 use sitelinks::emit_article;
+use statement_rdf::emit_statements;
 use triple_sink::{Setting, TermRef, TripleSink, emit_about};
 
 /// Emits the triples that the rules of the dump give for the document of a revision of `id`, one rule after the
@@ -80,21 +77,6 @@ pub(crate) fn emit_entity<S: TripleSink>(
     emit_articles(setting, id, counted.entity.links.as_slice(), out)?;
     let subject = TermRef::Id(Prefix::Wd, id);
     emit_statements(setting, &subject, &counted.entity.statements, out)
-}
-
-// Emits what it says but for its site links and statements.
-fn emit_spoken<S: TripleSink>(
-    setting: Setting,
-    id: EntityId,
-    counted: Counted<'_, '_>,
-    out: &mut S,
-) -> Result<(), OutOfMemory>
-    ensures gains { OnOk result (Gains S.items S.keeps out.old out.new (counted_spoken id counted.entry.rev counted.entry.counts counted.entry.entity.now)) }
-    ensures front { KeepsFront S.items out.old out.new }
-{
-    emit_texts(setting, id, counted.entity, out)?;
-    emit_dataset(setting, id, counted, out)?;
-    emit_property(setting, id, counted.entity.datatype.as_ref(), out)
 }
 
 fn emit_articles<S: TripleSink>(

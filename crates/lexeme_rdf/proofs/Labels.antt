@@ -14,8 +14,8 @@ use Rattle.rdf_vocabulary.specs.declared.predicate.Predicate.{Predicate}
 use Rattle.rdf_vocabulary.specs.Prefix.{entity_term}
 use Rattle.munger.specs.Short.{HasShortLabels}
 use Rattle.munger.proofs.Fit.{sorted_each}
-use Rattle.page_rdf.proofs.Each.{of_each_member}
-use Rattle.page_rdf.proofs.Labels.{AreShort, said, statement_short, tagged_short}
+use Rattle.statement_rdf.proofs.Each.{of_each_member}
+use Rattle.statement_rdf.proofs.Labels.{AreShort, said, statement_short, tagged_short}
 use Rattle.lexeme_rdf.specs.Dump.{lexdump}
 use Rattle.lexeme_rdf.specs.Gives.{EntryGives, lexical_entry, lexeme, language, category, TextGives, spelled, label, PageGives, dataset, dataset_about, license, format, revision, statement_count, identifier_count, modified}
 use Rattle.lexeme_rdf.specs.Gives.{FormGives, lexical_form, form_class, wikibase_form, representation, feature, SenseGives, lexical_sense, sense_class, wikibase_sense, gloss, OwnGives, one}

@@ -1,11 +1,4 @@
 pub mod Dump
-pub mod Entry
-pub mod Form
 pub mod Gives
 pub mod Keeps
-pub mod Page
-pub mod Part
-pub mod Parts
-pub mod Sense
 pub mod Statements
-pub mod Texts

@@ -5,10 +5,10 @@ use Rattle.rdf_term.specs.declared.triple.Triple.{Triple}
 use Rattle.entity_model.specs.declared.id.EntityId.{EntityId}
 use Rattle.entity_model.specs.declared.mapping.MappingVersion.{MappingVersion}
 use Rattle.rdf_vocabulary.specs.Prefix.{entity_term}
-use Rattle.page_rdf.specs.Statements.{statements_triples}
+use Rattle.statement_rdf.specs.Statements.{statements_triples}
 use Rattle.entity_model.specs.declared.lexeme.Lexeme.{Lexeme}
 use Rattle.entity_model.specs.declared.lexeme.Part.{Part}
-use Rattle.lexeme_rdf.specs.Part.{part_term}
+use Rattle.lexeme_page_rdf.specs.Part.{part_term}
 
 -- the statements of a form or a sense, each judged among them alone
 abbrev pub part_statements : MappingVersion → Part → List Triple

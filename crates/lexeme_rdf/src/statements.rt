@@ -6,9 +6,9 @@ ghost use Rattle.triple_sink.specs.Gains.{Gains, KeepsFront};
 ghost use Rattle.lexeme_rdf.specs.Statements.{all_statements, part_statements};
 
 use entity_model::{EntityId, Lexeme, Part};
-use page_rdf::emit_statements;
 use rdf_term::OutOfMemory;
 use rdf_vocabulary::Prefix;
+use statement_rdf::emit_statements;
 use triple_sink::{Setting, TermRef, TripleSink};
 
 /// Emits the statements of the lexeme, then those of its forms, and then those of its senses.

@@ -4,12 +4,9 @@ ghost use Rattle.std.specs.Prelude.{OnOk};
 ghost use Rattle.triple_sink.specs.Gains.{Gains, KeepsFront};
 ghost use Rattle.lexeme_rdf.specs.Dump.{lexdump};
 
-use crate::entry::emit_entry;
-use crate::page::emit_lexeme_page;
-use crate::parts::{PartKind, emit_parts};
 use crate::statements::emit_all_statements;
-use crate::texts::emit_texts;
 use entity_model::{EntityId, Lexeme};
+use lexeme_page_rdf::{PartKind, emit_entry, emit_lexeme_page, emit_parts, emit_texts};
 use rdf_term::OutOfMemory;
 use rdf_vocabulary::{Predicate, Prefix};
 use triple_sink::{Setting, TermRef, TripleSink};

@@ -1,15 +1,9 @@
 -- What pages of all kinds say of small parts has fit and short terms.
-use Rattle.std.proofs.Common.{ℕ, ◌≤◌, List, [], length, decimal, Option, Some, None, arith}
-use Rattle.std.specs.List.{All}
-use Rattle.std.proofs.lemmas.List.Elements.{recursion_from_All}
-use Rattle.rdf_term.specs.declared.term.Term.{Term}
+use Rattle.std.proofs.Common.{ℕ, ◌≤◌, List, length, decimal, Option, Some, None, arith}
 use Rattle.rdf_term.specs.Fit.{IsFitAndShort}
 use Rattle.entity_model.specs.declared.id.EntityId.{EntityId}
-use Rattle.entity_model.specs.declared.mapping.MappingVersion.{MappingVersion}
 use Rattle.entity_model.specs.declared.statement.Statement.{Statement}
 use Rattle.entity_model.specs.declared.value.Tagged.{Tagged}
-use Rattle.entity_model.specs.declared.value.Value.TheVariants.{Mono}
-use Rattle.entity_model.specs.Statement.{IsSmallStatement}
 use Rattle.entity_model.specs.Value.{IsSmallTagged, optional_length}
 use Rattle.digits.proofs.Decimals.{decimal_short}
 use Rattle.rdf_vocabulary.specs.declared.datatype.Datatype.TheVariants.{Integer, DateTime}
@@ -17,13 +11,9 @@ use Rattle.rdf_vocabulary.specs.declared.predicate.Predicate.TheVariants as Say
 use Rattle.rdf_vocabulary.specs.declared.prefix.Prefix.TheVariants.{Wd, Data}
 use Rattle.rdf_vocabulary.specs.declared.resource.Resource.TheVariants.{Dataset, PublicDomain}
 use Rattle.rdf_vocabulary.specs.Prefix.{entity_term}
-use Rattle.rdf_vocabulary.proofs.Fit.{AreFit, about_fit, class_fit, join_all, plain_fit, resource_fit}
+use Rattle.rdf_vocabulary.proofs.Fit.{AreFit, about_fit, class_fit, escaped_short, plain_fit, resource_fit, tagged_fit, typed_fit}
 use Rattle.rdf_vocabulary.proofs.Ids.{id_term_fit}
-use Rattle.value_nodes.proofs.Fit.{literal_fit, simple_term_fit}
-use Rattle.statement_rdf.specs.Ranking.{is_best}
-use Rattle.statement_rdf.proofs.Fit.{statement_triples_fit}
 use Rattle.page_rdf.specs.Dataset.{change_triples, dataset_term, format_version, identifiers, number_term, number_triples, page_triples}
-use Rattle.page_rdf.specs.Statements.{judged_triples, statements_triples}
 use Rattle.page_rdf.specs.Texts.{tagged_term}
 
 -- the IRIs of an entity and of its dataset, texts and numbers
@@ -34,10 +24,10 @@ pub dataset_fit : (x : EntityId) → IsFitAndShort (dataset_term x)
 dataset_fit x = id_term_fit Data x
 
 pub text_fit : (t : Tagged) → IsSmallTagged t → IsFitAndShort (tagged_term t)
-text_fit t small = simple_term_fit [] (Mono t) (record { texts = small; id = tt })
+text_fit t small = tagged_fit t.text t.language (omega (arith, small)) (omega (arith, small))
 
 pub number_fit : (n : ℕ) → IsFitAndShort (number_term n)
-number_fit n = literal_fit (decimal n) Integer (omega (arith, decimal_short n))
+number_fit n = typed_fit (decimal n) Integer (omega (arith, escaped_short (decimal n), decimal_short n))
 
 -- what is said of a dataset
 pub page_fit : (x : EntityId) → AreFit (page_triples x)
@@ -65,9 +55,4 @@ numbers_fit x rev statements =
 
 pub change_fit : (x : EntityId) (time : Option (List ℕ)) → optional_length time ≤ 8388608 → AreFit (change_triples (dataset_term x) time)
 change_fit x None small = tt
-change_fit x (Some time) small = (about_fit (dataset_term x) Say.DateModified _ (dataset_fit x) (literal_fit time DateTime (omega (arith, small))), tt)
-
--- the statements of a subject
-pub statements_fit : (version : MappingVersion) (subject : Term) (all : List Statement) → IsFitAndShort subject → All IsSmallStatement all → AreFit (statements_triples version subject all)
-statements_fit version subject all n small =
-    join_all IsSmallStatement (judged_triples version subject all) all (λ s is. statement_triples_fit version subject s (is_best all s) n is) (recursion_from_All IsSmallStatement all small)
+change_fit x (Some time) small = (about_fit (dataset_term x) Say.DateModified _ (dataset_fit x) (typed_fit time DateTime (omega (arith, escaped_short time, small))), tt)

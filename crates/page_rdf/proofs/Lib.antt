@@ -1,3 +1,4 @@
-pub mod Each
+mod Capitals
 pub mod Fit
-pub mod Labels
+pub mod SpokenFit
+mod TypeNames

@@ -1,3 +1,6 @@
+pub mod About
+pub mod Counted
 pub mod Dataset
-pub mod Statements
+pub mod Property
+pub mod Spoken
 pub mod Texts

@@ -1,7 +1,7 @@
--- The triples of a small statement have fit and short terms.
+-- The triples of small statements have fit and short terms.
 use Rattle.std.proofs.Common.{ℕ, Bool, true, false, List, [], ◌∷◌, ◌++◌, Option, Some, None, arith}
 use Rattle.std.specs.Prelude.{IfSome, option_map}
-use Rattle.std.specs.List.{AllByRecursion, flat_map}
+use Rattle.std.specs.List.{All, AllByRecursion, flat_map}
 use Rattle.std.proofs.lemmas.List.Elements.{recursion_from_All}
 use Rattle.rdf_term.specs.declared.term.Term.{Term}
 use Rattle.rdf_term.specs.declared.triple.Triple.{Triple}
@@ -30,13 +30,15 @@ use Rattle.value_nodes.specs.Terms.{simple_term}
 use Rattle.value_nodes.proofs.Fit.{simple_term_fit}
 use Rattle.value_nodes.proofs.NodesFit.{node_triples_fit}
 use Rattle.entity_model.specs.declared.mapping.MappingVersion.{MappingVersion}
-use Rattle.statement_rdf.specs.declared.role.Role.{Role}
-use Rattle.statement_rdf.specs.declared.role.Role.TheVariants as Roles
-use Rattle.statement_rdf.specs.Node.{statement_node, reference_node}
-use Rattle.statement_rdf.specs.Role.{value_prefix, node_prefix}
+use Rattle.statement_names.specs.declared.role.Role.{Role}
+use Rattle.statement_names.specs.declared.role.Role.TheVariants as Roles
+use Rattle.statement_names.specs.Node.{statement_node, reference_node}
+use Rattle.statement_ranks.specs.Ranking.{is_best}
+use Rattle.statement_names.specs.Role.{value_prefix, node_prefix}
 use Rattle.statement_rdf.specs.Snak.{link_triples, no_value_triple, content_triples, snak_triples}
 use Rattle.statement_rdf.specs.Statement.{direct_content, direct_triples, head_triples, main_triples, qualifier_triples, rank_resource, reference_triples, statement_triples, where_best}
-use Rattle.statement_rdf.proofs.NamesFit.{statement_node_fit, reference_node_fit, blank_fit}
+use Rattle.statement_rdf.specs.Statements.{judged_triples, statements_triples}
+use Rattle.statement_names.proofs.NamesFit.{statement_node_fit, reference_node_fit, blank_fit}
 
 triple_fit : (subject predicate object : Term) → IsFitAndShort subject → IsFitAndShort predicate → IsFitAndShort object → HasFitAndShortTerms (triple subject predicate object)
 triple_fit subject predicate object s p o = record { subject = s; predicate = p; object = o }
@@ -134,3 +136,8 @@ statement_triples_fit version entity s best e small =
     (snaks_fit version node s.id Roles.Qualifier s.qualifiers n (recursion_from_All IsSmallSnak s.qualifiers small.qualifiers)))
     (join_all IsSmallReference (reference_triples version node s.id) s.references (λ r h. reference_fit version node s.id r n h)
     (recursion_from_All IsSmallReference s.references small.references))
+
+-- the triples of all statements of a subject
+pub statements_fit : (version : MappingVersion) (subject : Term) (all : List Statement) → IsFitAndShort subject → All IsSmallStatement all → AreFit (statements_triples version subject all)
+statements_fit version subject all n small =
+    join_all IsSmallStatement (judged_triples version subject all) all (λ s is. statement_triples_fit version subject s (is_best all s) n is) (recursion_from_All IsSmallStatement all small)

@@ -1,7 +1,6 @@
 -- The triples of snaks.
-use Rattle.std.specs.Prelude.{ℕ, List, [], ◌∷◌, ◌++◌, Option, Some, None, decimal}
+use Rattle.std.specs.Prelude.{ℕ, List, [], ◌∷◌, ◌++◌, Option, Some, None}
 use Rattle.rdf_term.specs.declared.term.Term.{Term}
-use Rattle.rdf_term.specs.declared.term.Term.TheVariants.{Blank}
 use Rattle.rdf_term.specs.declared.triple.Triple.{Triple}
 use Rattle.rdf_term.specs.Triple.{triple}
 use Rattle.entity_model.specs.declared.id.EntityId.{EntityId}
@@ -9,10 +8,8 @@ use Rattle.entity_model.specs.declared.snak.Snak.{Snak}
 use Rattle.entity_model.specs.declared.snak.Content.{Content}
 use Rattle.entity_model.specs.declared.snak.Content.TheVariants as Contents
 use Rattle.entity_model.specs.declared.value.Value.{Value}
-use Rattle.entity_model.specs.EntityId.{id_text}
 use Rattle.rdf_vocabulary.specs.declared.predicate.Predicate.TheVariants.{RdfType}
 use Rattle.rdf_vocabulary.specs.declared.prefix.Prefix.TheVariants.{Wdno, Wdv}
-use Rattle.rdf_vocabulary.specs.Fields.{field, hashed_name}
 use Rattle.rdf_vocabulary.specs.Predicate.{predicate_term}
 use Rattle.rdf_vocabulary.specs.Prefix.{id_term, prefixed}
 use Rattle.value_nodes.specs.Name.{node_name}
@@ -20,17 +17,9 @@ use Rattle.value_nodes.specs.Nodes.{node_triples}
 use Rattle.value_nodes.specs.Said.{object_triples}
 use Rattle.value_nodes.specs.Terms.{simple_term}
 use Rattle.entity_model.specs.declared.mapping.MappingVersion.{MappingVersion}
-use Rattle.statement_rdf.specs.declared.role.Role.{Role}
-use Rattle.statement_rdf.specs.Role.{value_prefix, node_prefix, role_text}
-
--- the label of the node that stands for an unknown value: the hash of the statement's id, the property, the role and the snak's place
-abbrev pub unknown_label : List ℕ → Role → Snak → List ℕ
-unknown_label id role snak =
-    hashed_name (field id ++ field (id_text snak.property) ++ field (role_text role) ++ field (decimal snak.place))
-
--- the node that stands for an unknown value in the statement with this id
-abbrev pub unknown_node : List ℕ → Role → Snak → Term
-unknown_node id role snak = Blank (unknown_label id role snak)
+use Rattle.statement_names.specs.Label.{unknown_node}
+use Rattle.statement_names.specs.declared.role.Role.{Role}
+use Rattle.statement_names.specs.Role.{value_prefix, node_prefix}
 
 -- the triple that leads to the node of this name, where it is there
 abbrev pub link_triples : Term → Term → Option (List ℕ) → List Triple

@@ -1,20 +1,15 @@
-//! What the statements of an entity become in RDF ("Wikibase RDF Dump Format", Statement types): which of
-//! them are best, and the triples of each, of its qualifiers and of its references.
+//! What the statements of an entity become in RDF ("Wikibase RDF Dump Format", Statement types): the triples of each, of its qualifiers
+//! and of its references.
 //!
-//! `best` judges the statements of a list, and `emit_statement` hands on the triples of one.
+//! `emit_statement` hands on the triples of one, and `emit_statements` those of all statements of a subject. `snak` has the triples of snaks,
+//! and `laws` what holds of the rules.
 #![tactic(auto)]
 
-mod label;
 mod laws;
-mod node;
-mod ranking;
-mod role;
 mod snak;
 mod statement;
+mod statements;
 
-pub use laws::{
-    best_is_ranked_highest, statement_names_keep_characters, statement_terms_are_fit,
-    statement_triples_are_given,
-};
-pub use ranking::best;
+pub use laws::{statement_terms_are_fit, statement_triples_are_given};
 pub use statement::emit_statement;
+pub use statements::emit_statements;

@@ -7,11 +7,10 @@ ghost use Rattle.value_nodes.specs.{Name.node_name, Nodes.node_triples, Said.obj
 ghost use Rattle.rdf_vocabulary.specs.Prefix.{id_term};
 ghost use Rattle.statement_rdf.specs.Snak.{link_triples, no_value_triple, snak_triples, value_triples};
 
-use crate::label::Labels;
-use crate::role::Role;
 use entity_model::{Content, EntityId, Snak, Value};
 use rdf_term::OutOfMemory;
 use rdf_vocabulary::{Predicate, Prefix};
+use statement_names::{Labels, Role};
 use std::alloc::Global;
 use triple_sink::{Setting, Subject, TermRef, TripleSink};
 use value_nodes::{emit_parts, emit_simple, node_name};

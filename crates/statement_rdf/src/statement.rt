@@ -5,13 +5,11 @@ ghost use Rattle.std.specs.List.{flat_map};
 ghost use Rattle.triple_sink.specs.{Gains.Gains, Gains.KeepsFront, Subject.IsKnown, TermRef.meant};
 ghost use Rattle.statement_rdf.specs.Statement.{direct_triples, head_triples, main_triples, part_triples, qualifier_triples, rank_resource, reference_triples, source_triples, statement_triples};
 
-use crate::label::Labels;
-use crate::node::statement_name;
-use crate::role::Role;
 use crate::snak::{emit_no_value, emit_object, emit_snak, emit_snaks};
 use entity_model::{Content, Rank, Reference, Snak, Statement};
 use rdf_term::{CowText, OutOfMemory};
 use rdf_vocabulary::{Predicate, Prefix, Resource};
+use statement_names::{Labels, Role, statement_name};
 use std::alloc::Global;
 use triple_sink::{Setting, Subject, TermRef, TripleSink, emit_about, emit_class};
 

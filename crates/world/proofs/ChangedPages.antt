@@ -17,9 +17,10 @@ use Rattle.entity_model.specs.declared.entity.Entity.{Entity}
 use Rattle.entity_model.specs.declared.id.EntityId.{EntityId}
 use Rattle.entity_model.specs.declared.mapping.MappingVersion.{MappingVersion}
 use Rattle.entity_model.specs.declared.unfit.Unfit.{Unfit}
-use Rattle.entity_rdf.specs.declared.counted.Counts.{Counts}
+use Rattle.page_rdf.specs.declared.counts.Counts.{Counts}
 use Rattle.entity_rdf.specs.Changing.{kept_list}
-use Rattle.entity_rdf.specs.Counted.{AreAfter, counted_kept, counts_of}
+use Rattle.page_rdf.specs.Counted.{AreAfter, counts_of}
+use Rattle.entity_rdf.specs.Counted.{counted_kept}
 use Rattle.entity_rdf.proofs.Balance.{gone_part, kept_balance, part_within}
 use Rattle.entity_rdf.proofs.Counting.{counts_after}
 use Rattle.entity_rdf.proofs.PartFit.{come_fit}

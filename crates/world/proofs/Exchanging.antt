@@ -13,7 +13,7 @@ use Rattle.entity_model.specs.declared.id.EntityId.{EntityId}
 use Rattle.entity_model.specs.declared.mapping.MappingVersion.{MappingVersion}
 use Rattle.entity_model.specs.declared.mapping.MappingVersion.TheVariants.{One, Two}
 use Rattle.entity_model.specs.EntityId.{entity_cmp}
-use Rattle.entity_rdf.specs.declared.counted.Counts.{Counts as PageCounts}
+use Rattle.page_rdf.specs.declared.counts.Counts.{Counts as PageCounts}
 use Rattle.entity_rdf.specs.Changing.{kept_list}
 use Rattle.entity_state.specs.declared.record.Held.{Held}
 use Rattle.replay_model.specs.Records.{Bytes}

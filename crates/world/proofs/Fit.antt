@@ -29,7 +29,7 @@ use Rattle.side_output.specs.declared.entry.Cause.{Cause}
 use Rattle.replay_model.specs.Replies.{GivesDocument}
 use Rattle.world.specs.Applying.{IsReply}
 use Rattle.std.specs.Prelude.{IfSome}
-use Rattle.entity_rdf.specs.declared.counted.Counts.{Counts}
+use Rattle.page_rdf.specs.declared.counts.Counts.{Counts}
 use Rattle.world.specs.declared.fetching.FetchedPage.{FetchedPage}
 use Rattle.world.specs.declared.fetching.FetchedPage.TheVariants.{Whole, Changed}
 use Rattle.world.specs.Fetched.{IsFetched, IsPageOf, bytes_of}

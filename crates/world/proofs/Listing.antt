@@ -11,7 +11,7 @@ use Rattle.entity_model.specs.declared.document.Document.TheVariants.{Entity as 
 use Rattle.entity_model.specs.declared.entity.Entity.{Entity}
 use Rattle.entity_model.specs.declared.id.EntityId.{EntityId}
 use Rattle.entity_model.specs.declared.mapping.MappingVersion.{MappingVersion}
-use Rattle.entity_rdf.specs.declared.counted.Counts.{Counts}
+use Rattle.page_rdf.specs.declared.counts.Counts.{Counts}
 use Rattle.entity_rdf.specs.Changing.{kept_list}
 use Rattle.entity_rdf.specs.Dump.{dump}
 use Rattle.munger.specs.Munging.{munged}

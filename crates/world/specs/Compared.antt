@@ -9,8 +9,9 @@ use Rattle.entity_model.specs.declared.entity.Entity.{Entity}
 use Rattle.entity_model.specs.declared.id.EntityId.{EntityId}
 use Rattle.entity_model.specs.declared.mapping.MappingVersion.{MappingVersion}
 use Rattle.entity_rdf.specs.Changing.{kept_list}
-use Rattle.entity_rdf.specs.declared.counted.Counts.{Counts}
-use Rattle.entity_rdf.specs.Counted.{AreAfter, counted_kept, counts_of}
+use Rattle.page_rdf.specs.declared.counts.Counts.{Counts}
+use Rattle.page_rdf.specs.Counted.{AreAfter, counts_of}
+use Rattle.entity_rdf.specs.Counted.{counted_kept}
 use Rattle.entity_state.specs.declared.record.Held.{Held}
 use Rattle.replay_model.specs.Records.{Bytes, Records, record_of}
 use Rattle.replay_model.specs.Versions.{version_at}

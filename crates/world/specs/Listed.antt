@@ -9,9 +9,9 @@ use Rattle.entity_model.specs.declared.document.Document.TheVariants.{Entity as 
 use Rattle.entity_model.specs.declared.entity.Entity.{Entity}
 use Rattle.entity_model.specs.declared.id.EntityId.{EntityId}
 use Rattle.entity_model.specs.declared.mapping.MappingVersion.{MappingVersion}
-use Rattle.entity_rdf.specs.declared.counted.Counts.{Counts}
+use Rattle.page_rdf.specs.declared.counts.Counts.{Counts}
 use Rattle.entity_rdf.specs.Changing.{kept_list}
-use Rattle.entity_rdf.specs.Counted.{counts_of}
+use Rattle.page_rdf.specs.Counted.{counts_of}
 use Rattle.replay_model.specs.Records.{Bytes}
 use Rattle.world.specs.Meaning.{meaning}
 

@@ -2,7 +2,7 @@
 use Rattle.std.specs.Prelude.{◌≡◌, ℕ, ◌<◌, ◌≤◌, List, Option, Result, Err, IfNone, IfOk, IfSome, OnErr, option_map}
 use Rattle.rdf_term.specs.declared.triple.Triple.{Triple}
 use Rattle.entity_model.specs.declared.entity.Entity.{Entity}
-use Rattle.entity_rdf.specs.declared.counted.Counts.{Counts}
+use Rattle.page_rdf.specs.declared.counts.Counts.{Counts}
 use Rattle.entity_rdf.specs.Changing.{kept_list}
 use Rattle.replay_model.specs.Records.{Bytes}
 use Rattle.slot_index.specs.declared.key.Key.{Key}

@@ -4,7 +4,7 @@ use Rattle.rdf_term.specs.declared.triple.Triple.{Triple}
 use Rattle.entity_json.specs.Document.{document_of}
 use Rattle.entity_model.specs.declared.id.EntityId.{EntityId}
 use Rattle.entity_model.specs.declared.mapping.MappingVersion.{MappingVersion}
-use Rattle.entity_rdf.specs.declared.counted.Counts.{Counts}
+use Rattle.page_rdf.specs.declared.counts.Counts.{Counts}
 use Rattle.entity_state.specs.declared.record.Held.{Held}
 use Rattle.replay_model.specs.Records.{Bytes}
 use Rattle.replay_model.specs.Versions.{version_at}

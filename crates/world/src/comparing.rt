@@ -3,13 +3,15 @@
 ghost use Rattle.std.specs.Prelude.{◌≡◌, Some, IfOk, IfSome};
 ghost use Rattle.entity_model.specs.{declared.entity.Entity.Entity as TheEntity, declared.document.Document.TheVariants.Entity as AnEntity};
 ghost use Rattle.entity_json.specs.Document.{document_of};
-ghost use Rattle.entity_rdf.specs.Counted.{counted_kept, counts_of};
+ghost use Rattle.page_rdf.specs.Counted.{counts_of};
+ghost use Rattle.entity_rdf.specs.Counted.{counted_kept};
 ghost use Rattle.world.specs.Compared.{AreChanged, AreTextsOfParts};
 
 use crate::fetching::Wanted;
 use changed_pages::{Changed, read_changed};
 use entity_model::Entity;
-use entity_rdf::{Counted, Counts, counted_texts};
+use entity_rdf::counted_texts;
+use page_rdf::{Counted, Counts};
 use rdf_term::{List, OutOfMemory};
 use std::alloc::Global;
 use triple_sink::Setting;

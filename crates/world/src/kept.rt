@@ -5,8 +5,8 @@ ghost use Rattle.world.specs.{Keeping.kept_of, Keeping.keys_held, Timed.counts_h
 
 use crate::swapping::Had;
 use entity_model::EntityId;
-use entity_rdf::Counts;
 use entity_state::Table;
+use page_rdf::Counts;
 use text_region::Piece;
 use triple_store::{KeySlices, Keys};
 

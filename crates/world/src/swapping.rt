@@ -13,7 +13,7 @@ use crate::comparing::ChangedPage;
 use crate::fetching::{FetchedPage, Wanted, texts_in};
 use crate::kept::PageTimes;
 use entity_model::EntityId;
-use entity_rdf::Counts;
+use page_rdf::Counts;
 use std::alloc::Global;
 use triple_store::{Change, KeySlices, Keys, PartSwap, Store, StoreFault, Telling, TimedExchange};
 use triple_texts::TripleTexts;

@@ -4,8 +4,8 @@ use Rattle.std.specs.List.{flat_map}
 use Rattle.std.proofs.lemmas.Result.{on_ok_weaker}
 use Rattle.triple_sink.proofs.Gained.{gains_then}
 use Rattle.sitelinks.specs.Article.{article_triples}
-use Rattle.entity_rdf.specs.Counted.{counted_spoken}
-use Rattle.page_rdf.specs.Statements.{statements_triples}
+use Rattle.page_rdf.specs.Spoken.{counted_spoken}
+use Rattle.statement_rdf.specs.Statements.{statements_triples}
 use Rattle.rdf_vocabulary.specs.Prefix.{entity_term}
 use Rattle.entity_rdf.proofs.walk.emit_entity.Goals as goal
 

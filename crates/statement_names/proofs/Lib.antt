@@ -1,0 +1,3 @@
+mod KeptParts
+mod Names
+pub mod NamesFit
