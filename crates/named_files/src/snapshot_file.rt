@@ -3,7 +3,7 @@
 ghost use Rattle.std.specs.Prelude.{◌≡◌, ◌++◌, ◌<◌, ◌≤◌, None, codes, length, string_bytes, IfErr, IfOk, OnOk};
 ghost use Rattle.wq_io.specs.Streams.{counted};
 
-use rdf_term::OutOfMemory;
+use base::OutOfMemory;
 use std::alloc::Global;
 use std::fs::OpenFile;
 use std::io::{BufWriter, Write};
