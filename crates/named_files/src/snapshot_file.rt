@@ -60,7 +60,12 @@ impl<R: Files> SnapshotFile<R> {
 
     /// Where something was written, puts it on the disk whole, and only then gives it its name: until then the file with this name is as it
     /// was.
-    pub fn keep(&mut self) -> io::Result<()> {
+    ///
+    /// # Errors
+    /// The file system refused a part of that.
+    pub fn keep(&mut self) -> io::Result<()>
+        ensures { self.new.faults ≡ self.old.faults }
+    {
         match &mut self.file {
             None => Ok(()),
             Some(file) => {
