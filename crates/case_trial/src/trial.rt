@@ -3,12 +3,10 @@
 use anyhow::Result;
 use std::alloc::Global;
 
-/// How many runs were made, up to the first that differed, and how that differed.
+// How many runs were made, up to the first that differed, and how that differed.
 #[derive(Drop)]
-pub struct Trial {
-    /// How many runs were made.
+pub(crate) struct Trial {
     pub runs: u64,
-    /// How the last of them differed.
     pub difference: Option<String>,
 }
 

@@ -12,11 +12,8 @@ use case_file::{
 use std::alloc::Global;
 use std::str;
 
-/// Tries a case: once, with each row of its table, or with each of its calls failing in turn.
-///
-/// # Errors
-/// The case can't be read, or memory was refused.
-pub fn tried<R: Runner>(alloc: Global, runner: &R, case: &Case) -> Result<Trial> {
+// Tries a case: once, with each row of its table, or with each of its calls failing in turn.
+pub(crate) fn tried<R: Runner>(alloc: Global, runner: &R, case: &Case) -> Result<Trial> {
     check(case).context(format_args!("{}", case.name))?;
     match case.section("rows") {
         None => tried_alone(alloc, runner, case).context(format_args!("{}", case.name)),

@@ -4,7 +4,7 @@ use anyhow::Result;
 use case_file::{Calls, Given, Page};
 use case_trial::{Left, Runner};
 use case_world::{owners, records, side};
-use rdf_term::{List, Text};
+use rdf_term::{List, OutOfMemory, Text};
 use revisions::{MemoryRevisions, RevisionBytes};
 use session::{Ports, Status, run, status_number, status_text};
 use std::alloc::Global;
@@ -41,7 +41,7 @@ fn run_in_new_world(
     keys: RandomState,
     words: &[String],
     ports: &mut MemoryPorts,
-) -> Result<(Status, World)> {
+) -> Result<(Status, World), OutOfMemory> {
     let mut world = World::new(alloc, keys)?;
     let status = run(alloc, keys, words, ports, &mut world);
     Ok((status, world))
@@ -56,14 +56,19 @@ fn left(
     asked: &[u8],
 ) -> Result<Left> {
     let mut left = Left::new(alloc);
-    left.status = status_line(alloc, status)?;
-    see_ports(alloc, ports, &mut left)?;
+    see_run(alloc, status, ports, &mut left)?;
     see_world(alloc, world, asked, &mut left)?;
     Ok(left)
 }
 
-// Sees what was printed, saved and fetched.
-fn see_ports(alloc: Global, ports: &MemoryPorts, left: &mut Left) -> Result<()> {
+// Sees how the run ended, and what was printed, saved and fetched.
+fn see_run(
+    alloc: Global,
+    status: &Status,
+    ports: &MemoryPorts,
+    left: &mut Left,
+) -> Result<(), OutOfMemory> {
+    left.status = status_line(alloc, status)?;
     left.out = Vec::from_slice(alloc, ports.out.bytes())?;
     left.saved = Vec::from_slice(alloc, ports.snapshot.bytes())?;
     left.fetches = ports.revisions.fetches();
@@ -80,7 +85,7 @@ fn see_world(alloc: Global, world: &World, asked: &[u8], left: &mut Left) -> Res
 }
 
 // The number of a status, and its text where it has one.
-fn status_line(alloc: Global, status: &Status) -> Result<String> {
+fn status_line(alloc: Global, status: &Status) -> Result<String, OutOfMemory> {
     let number = status_number(status);
     let text = status_text(alloc, status)?;
     let text = text.as_str();
@@ -91,7 +96,7 @@ fn status_line(alloc: Global, status: &Status) -> Result<String> {
 }
 
 // The ports over what is given.
-fn ports(alloc: Global, given: &Given) -> Result<MemoryPorts> {
+fn ports(alloc: Global, given: &Given) -> Result<MemoryPorts, OutOfMemory> {
     let events = source(alloc, given.input.as_slice(), &given.reads)?;
     let resumed = source(alloc, given.resumed.as_slice(), &given.loads)?;
     let revisions = revisions(alloc, given)?;
@@ -107,33 +112,33 @@ fn ports(alloc: Global, given: &Given) -> Result<MemoryPorts> {
 }
 
 // The input, or the snapshot from which the run goes on.
-fn source(alloc: Global, bytes: &[u8], reads: &Calls) -> Result<MemorySource> {
+fn source(alloc: Global, bytes: &[u8], reads: &Calls) -> Result<MemorySource, OutOfMemory> {
     let bytes = Vec::from_slice(alloc, bytes)?;
     let failing = list(alloc, reads.failing.as_slice())?;
     Ok(MemorySource::new(bytes, reads.bytes.max(1), failing))
 }
 
 // The pages.
-fn revisions(alloc: Global, given: &Given) -> Result<MemoryRevisions> {
+fn revisions(alloc: Global, given: &Given) -> Result<MemoryRevisions, OutOfMemory> {
     let entries = entries(alloc, given.pages.as_slice())?;
     let failing = list(alloc, given.failing_fetches.as_slice())?;
     Ok(MemoryRevisions::new(entries, failing))
 }
 
 // Where the output goes, or the snapshot.
-fn sink(alloc: Global, writes: &Calls) -> Result<MemorySink> {
+fn sink(alloc: Global, writes: &Calls) -> Result<MemorySink, OutOfMemory> {
     let failing = list(alloc, writes.failing.as_slice())?;
     Ok(MemorySink::new(alloc, writes.bytes.max(1), failing))
 }
 
 // The numbers of calls that fail.
-fn list(alloc: Global, numbers: &[u64]) -> Result<List<u64>> {
+fn list(alloc: Global, numbers: &[u64]) -> Result<List<u64>, OutOfMemory> {
     let numbers = Vec::from_slice(alloc, numbers)?;
     Ok(List::from_vec(numbers))
 }
 
 // The pages, each with memory of its own.
-fn entries(alloc: Global, pages: &[Page]) -> Result<List<RevisionBytes>> {
+fn entries(alloc: Global, pages: &[Page]) -> Result<List<RevisionBytes>, OutOfMemory> {
     let mut entries = List::new(alloc);
     for page in pages {
         let entry = entry(alloc, page)?;
@@ -143,7 +148,7 @@ fn entries(alloc: Global, pages: &[Page]) -> Result<List<RevisionBytes>> {
 }
 
 // A page with memory of its own.
-fn entry(alloc: Global, page: &Page) -> Result<RevisionBytes> {
+fn entry(alloc: Global, page: &Page) -> Result<RevisionBytes, OutOfMemory> {
     let folder = Text::new(alloc, page.folder.as_str())?;
     let bytes = Vec::from_slice(alloc, page.bytes.as_slice())?;
     Ok(RevisionBytes {

@@ -3,7 +3,7 @@
 ghost use Rattle.std.specs.Prelude.{◌≡◌, ◌++◌, ◌<◌, ◌≤◌, None, codes, length, string_bytes, IfErr, IfOk, OnOk};
 ghost use Rattle.wq_io.specs.Streams.{counted};
 
-use rdf_term::OutOfMemory;
+use base::OutOfMemory;
 use std::alloc::Global;
 use std::fs::OpenFile;
 use std::io::{BufWriter, Write};
@@ -60,7 +60,12 @@ impl<R: Files> SnapshotFile<R> {
 
     /// Where something was written, puts it on the disk whole, and only then gives it its name: until then the file with this name is as it
     /// was.
-    pub fn keep(&mut self) -> io::Result<()> {
+    ///
+    /// # Errors
+    /// The file system refused a part of that.
+    pub fn keep(&mut self) -> io::Result<()>
+        ensures { self.new.faults ≡ self.old.faults }
+    {
         match &mut self.file {
             None => Ok(()),
             Some(file) => {
