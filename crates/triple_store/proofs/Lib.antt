@@ -38,3 +38,4 @@ pub mod Along
 pub mod Counted
 pub mod Staying
 pub mod Placing
+pub mod Sole
