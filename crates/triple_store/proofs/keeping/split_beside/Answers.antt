@@ -1,5 +1,8 @@
-use Rattle.std.proofs.Common.{◌<◌, true, length, ◌∙◌, arith}
+use Rattle.std.proofs.Common.{◌<◌, ◌++◌, true, length, ap, ◌∙◌, arith}
+use Rattle.std.proofs.lemmas.List.{take_all}
 use Rattle.std.proofs.lemmas.Option.{slice_get_within}
+use Rattle.rising.specs.Rising.{has}
+use Rattle.slot_index.specs.Keys.{key_cmp}
 use Rattle.triple_store.specs.Keys.{marked}
 use Rattle.triple_store.proofs.Marked.{set_long}
 use Rattle.triple_store.proofs.Staying.{apart_more, beside_kept, beside_none_met, beside_rest, nothing_apart}
@@ -32,3 +35,6 @@ loop-index-preserved c =
         apart = rw w.in_ok-put_last-in-None.ensures (apart_more c.args.old.now c.loop-index.rest.items _ w.in-None.ensures.none c.loop-index.invariant.apart);
       })
     ]
+
+pub returns-clause-same : goal.returns-clause-same
+returns-clause-same c key = c.loop-index.invariant.same key ∙ ap (λ ks. has key_cmp key (ks ++ marked c.args.old.now c.args.marks.items)) (take_all c.loop-index.index c.args.met.now (omega (arith, c.loop-index-test.false)))

@@ -1,5 +1,7 @@
-use Rattle.std.proofs.Common.{◌<◌, true, length, ◌∙◌, arith}
+use Rattle.std.proofs.Common.{◌<◌, true, length, ap, ◌∙◌, arith}
+use Rattle.std.proofs.lemmas.List.{take_all}
 use Rattle.std.proofs.lemmas.Option.{slice_get_within}
+use Rattle.rising.specs.Rising.{has}
 use Rattle.slot_index.specs.Keys.{key_cmp}
 use Rattle.triple_store.proofs.Marked.{fresh_marks, more_kept, more_rest, none_met, set_long}
 use Rattle.triple_store.proofs.keys.split.Goals as goal
@@ -28,3 +30,6 @@ loop-index-preserved c =
         same = rw w.in_ok-push-in-None.ensures.items (more_rest key_cmp c.args.old.now c.args.met.now c.loop-index.kept.items c.loop-index.rest.items c.loop-index.index _ c.loop-index-test.true c.loop-index.invariant.same);
       })
     ]
+
+pub returns-clause-same : goal.returns-clause-same
+returns-clause-same c key = c.loop-index.invariant.same key ∙ ap (has key_cmp key) (take_all c.loop-index.index c.args.met.now (omega (arith, c.loop-index-test.false)))

@@ -2,7 +2,7 @@
 use Rattle.std.proofs.Common.{◌<◌, ◌++◌, ◌∙◌, [], ◌∷◌, take, length, get_or, ap, sym, subst, arith}
 use Rattle.std.specs.Prelude.{map as mapped}
 use Rattle.std.specs.List.{All}
-use Rattle.std.proofs.lemmas.List.{map_push, take_more}
+use Rattle.std.proofs.lemmas.List.{map_push, take_all, take_more}
 use Rattle.std.proofs.lemmas.List.Elements.{All-push}
 use Rattle.triple_store.specs.Ranks.{IsRanked, rank_key}
 use Rattle.triple_store.proofs.ranking.ranked_keys.Goals as goal
@@ -22,3 +22,10 @@ loop-key-preserved c =
           ∙ sym (ap (mapped (rank_key ranks)) more ∙ map_push (rank_key ranks) (take i keys) key),
       subst (All P) (sym more) (All-push P (take i keys) key c.loop-key.invariant.1 c.in-Some.ensures.1),
     )
+
+-- in the end of all
+pub returns-clause-keys : goal.returns-clause-keys
+returns-clause-keys c = c.loop-key.invariant.0 ∙ ap (mapped (rank_key c.args.ranks.now)) (take_all c.loop-key.key-index c.args.keys.now (omega (arith, c.loop-key-test.false)))
+
+pub returns-clause-ranked : goal.returns-clause-ranked
+returns-clause-ranked c = subst (All (IsRanked c.args.terms.now c.args.ranks.now)) (take_all c.loop-key.key-index c.args.keys.now (omega (arith, c.loop-key-test.false))) c.loop-key.invariant.1
