@@ -44,23 +44,12 @@ pub(crate) fn keys_beside(
     ensures few { IfOk result (λ done. length done.gone.items ≤ length left.entry.keys.rising.now) }
     ensures gone { IfOk result (λ done. difference key_cmp done.gone.items done.keys.rising.items ≡ difference key_cmp left.entry.keys.rising.now done.keys.rising.items) }
 {
-    let old = left.keys.rising;
-    let marks = marks_of(alloc, left.counts)?;
-    let parted = split_beside(
-        alloc,
-        old,
-        marks,
-        met.keys.as_slice(),
-        met.old_indices.as_slice(),
-    )?;
-    let Parted { kept, rest } = parted;
-    let mut others = rest;
-    put_in_order(&mut others)?;
+    let parted = parted_beside(alloc, left, met)?;
     let sources = Sources {
-        old,
+        old: left.keys.rising,
         counts: left.counts,
-        stays: kept.as_slice(),
-        others: others.as_slice(),
+        stays: parted.kept.as_slice(),
+        others: parted.rest.as_slice(),
     };
     let laid = laid_in_one(alloc, sources)?;
     let Laid {
@@ -78,6 +67,27 @@ pub(crate) fn keys_beside(
         counts,
         gone,
     })
+}
+
+// The old keys that stay or were met, by marks, and all other keys that were met, in order, each once.
+fn parted_beside(alloc: Global, left: Left<'_>, met: &Met) -> Result<Parted, OutOfMemory>
+    requires rising { IsRising key_cmp left.keys.rising.now }
+    requires as_many { length left.counts.now ≡ length left.keys.rising.now }
+    ensures len { IfOk result (λ parted. length parted.kept.items ≡ length left.entry.keys.rising.now) }
+    ensures rising { IfOk result (λ parted. IsRising key_cmp parted.rest.items) }
+    ensures same { IfOk result (λ parted. sorted key_cmp (marked left.entry.keys.rising.now parted.kept.items ++ parted.rest.items) ≡ sorted key_cmp (met.now.keys.items ++ counted_keys left.entry.keys.rising.now left.entry.counts.now)) }
+    ensures apart { IfOk result (λ parted. (key : TheKey) → has key_cmp key left.entry.keys.rising.now ≡ true → has key_cmp key parted.rest.items ≡ false) }
+{
+    let marks = marks_of(alloc, left.counts)?;
+    let mut parted = split_beside(
+        alloc,
+        left.keys.rising,
+        marks,
+        met.keys.as_slice(),
+        met.old_indices.as_slice(),
+    )?;
+    put_in_order(&mut parted.rest)?;
+    Ok(parted)
 }
 
 // The old keys that are marked or were met, by marks, and all other keys that were met.
