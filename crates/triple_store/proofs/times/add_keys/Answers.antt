@@ -5,6 +5,12 @@ use Rattle.std.proofs.lemmas.Option.{slice_get_within}
 use Rattle.triple_store.proofs.Counted.{key_added}
 use Rattle.triple_store.proofs.times.add_keys.Goals as goal
 
+pub index-requires : goal.index-requires
+index-requires c = omega (arith, slice_get_within c.args.keys.rising.now c.in_ok-at.at _ c.in_ok-at.ensures.found, c.requires.as_many, c.loop-place.invariant.as_many)
+
+pub index_mut-requires : goal.index_mut-requires
+index_mut-requires c = omega (arith, slice_get_within c.args.keys.rising.now c.in_ok-at.at _ c.in_ok-at.ensures.found, c.requires.as_many, c.loop-place.invariant.as_many)
+
 pub loop-place-preserved : goal.loop-place-preserved
 loop-place-preserved c =
     let at = c.in_ok-at.at in
