@@ -178,6 +178,13 @@ module _ (st new : Catalog) (r s : Texts) (h : IsStored st r) where
   pub keys_unmoved : KeepsTexts st.pool r new.pool s → new.index ≡ st.index → (l : Key) (t : Triple) → HasKey st r l t → HasKey new s l t
   keys_unmoved keeps e l t k = record { stored = ap (λ c. map.contains_key c l) e ∙ k.stored; has = keeps_triple st.pool new.pool r s l t keeps k.has }
 
+  pub stored_same : new.index ≡ st.index → LiesIn new.pool s → ((x : ℕ) → count_at new.pool x ≡ count_at st.pool x) → IsStored new s
+  stored_same e lies counts = record {
+    lies = lies;
+    counted = λ slot. counts slot ∙ h.counted slot ∙ ap (λ c. slots.used (map.keys c) slot) (sym e);
+    owned = subst keyed.HaveOwners (sym e) h.owned;
+  }
+
   module _ (k : Key) (t : Triple) (e : new.index ≡ keyed.raised st.index k) where
     pub counts_after : LiesIn new.pool s → KeepsTexts st.pool r new.pool s → HasTriple new.pool s k t → counts_in new s ≡ raised (counts_in st r) t
     counts_after lies keeps has_k = ap (λ c. image (triple_at new.pool s) c) e ∙ counts_raised st.pool new.pool r s st.index k t lies keeps (live_stored st r h) has_k
