@@ -167,6 +167,31 @@ returns-in-Err-change_if-clause-keeps g c = keeps _ _ _ _ c.args.swap.left.keys.
 pub returns-in-Err-change_if-clause-again : goal.returns-in-Err-change_if-clause-again
 returns-in-Err-change_if-clause-again g c = again _ _ _ _ c.args.swap.left.keys.rising.now _ _ c.take_in-taken.ensures.takes _ _ _ c.remove_beside-in-Err-change_if.ensures.removes
 
+-- what lies beside the terms stays, and so does the limit
+pub returns-in-Err-clause-beside : goal.returns-in-Err-clause-beside
+returns-in-Err-clause-beside g c piece = c.remove_beside.ensures.removes.beside piece ∙ c.take_in-taken.ensures.takes.beside piece
+
+pub returns-in-Err-clause-limit : goal.returns-in-Err-clause-limit
+returns-in-Err-clause-limit g c = c.remove_beside.ensures.removes.limit ∙ c.take_in-taken.ensures.takes.limit
+
+pub returns-in_default-keys_beside-clause-beside : goal.returns-in_default-keys_beside-clause-beside
+returns-in_default-keys_beside-clause-beside g c piece = c.remove_beside-in_default-keys_beside.ensures.removes.beside piece ∙ c.take_in-taken.ensures.takes.beside piece
+
+pub returns-in_default-keys_beside-clause-limit : goal.returns-in_default-keys_beside-clause-limit
+returns-in_default-keys_beside-clause-limit g c = c.remove_beside-in_default-keys_beside.ensures.removes.limit ∙ c.take_in-taken.ensures.takes.limit
+
+pub returns-in-Ok-change_if-clause-beside : goal.returns-in-Ok-change_if-clause-beside
+returns-in-Ok-change_if-clause-beside g c piece = c.remove_beside-in-Ok-change_if.ensures.removes.beside piece ∙ c.take_in-taken.ensures.takes.beside piece
+
+pub returns-in-Ok-change_if-clause-limit : goal.returns-in-Ok-change_if-clause-limit
+returns-in-Ok-change_if-clause-limit g c = c.remove_beside-in-Ok-change_if.ensures.removes.limit ∙ c.take_in-taken.ensures.takes.limit
+
+pub returns-in-Err-change_if-clause-beside : goal.returns-in-Err-change_if-clause-beside
+returns-in-Err-change_if-clause-beside g c piece = c.remove_beside-in-Err-change_if.ensures.removes.beside piece ∙ c.take_in-taken.ensures.takes.beside piece
+
+pub returns-in-Err-change_if-clause-limit : goal.returns-in-Err-change_if-clause-limit
+returns-in-Err-change_if-clause-limit g c = c.remove_beside-in-Err-change_if.ensures.removes.limit ∙ c.take_in-taken.ensures.takes.limit
+
 -- the costs
 pub returns-in-Err-clause-cost : goal.returns-in-Err-clause-cost
 returns-in-Err-clause-cost g c =
