@@ -5,7 +5,7 @@ ghost use Rattle.std.specs.Cmp.{partial_equiv_from_equiv, eq_by_cmp_equiv, parti
 ghost use Rattle.std.specs.Ordering.{as_partial_cmp, eq_by_cmp, nat_cmp, ordering_then};
 ghost use Rattle.slot_index.specs.Keys.{FitsSlots, key_cmp, key_cmp-total, key_cmp-IsAntisymmetric, turned};
 
-use block_index::{Ranked, Steps};
+use comparison_steps::{Ranked, Steps};
 use std::cmp::Ordering;
 use std::sync::ledger::Ledger;
 

@@ -3,7 +3,7 @@ use Rattle.std.proofs.Common.{◌≡◌, ℕ, zero, suc, ◌+◌, ◌-◌, ◌*�
 use Rattle.std.proofs.Math.Nat.{mul-le-mul_left}
 use Rattle.std.specs.Cmp.{IsTotalOrder}
 use Rattle.std.specs.FinMap as map
-use Rattle.block_index.specs.Steps.{WithinSteps}
+use Rattle.comparison_steps.specs.Steps.{WithinSteps}
 use Rattle.slot_index.specs.declared.key.Key.{Key}
 use Rattle.slot_index.specs.Keys.{key_cmp-total}
 use Rattle.slot_index.specs.Counts.{KeyCounts, count_of, lowered, raised, with_count}

@@ -18,7 +18,7 @@ use crate::exchanging::{Met, Swap, no_keys_met};
 use crate::keeping::{KeysBeside, Left, keys_beside};
 use crate::keys::{Keys, in_order};
 use crate::telling::{Change, Sides, Telling};
-use block_index::Steps;
+use comparison_steps::Steps;
 use slot_index::Key;
 use std::alloc::Global;
 use std::sync::ledger::Ledger;

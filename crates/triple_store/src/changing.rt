@@ -16,7 +16,7 @@ use crate::catalog::Catalog;
 use crate::finding::Near;
 use crate::interning::{Hints, intern_triple, release_triple};
 use crate::seen::Seen;
-use block_index::Steps;
+use comparison_steps::Steps;
 use slot_index::Key;
 use std::sync::ledger::Ledger;
 use term_pool::Pool;

@@ -18,7 +18,7 @@ use crate::finding::{Near, known_subject};
 use crate::keys::{KeySlices, Keys, NOWHERE, in_order};
 use crate::seen::Seen;
 use crate::telling::{Exchange, Sides, Telling};
-use block_index::Steps;
+use comparison_steps::Steps;
 use rdf_term::OutOfMemory;
 use slot_index::Key;
 use std::alloc::Global;

@@ -13,7 +13,7 @@ use crate::exchanging::Swap;
 use crate::keys::{KeySlices, Keys};
 use crate::store::Store;
 use crate::telling::{Change, Telling};
-use block_index::Steps;
+use comparison_steps::Steps;
 use std::marker::Brand;
 use std::sync::ledger::{Blank, Ledger};
 use triple_texts::TripleTexts;

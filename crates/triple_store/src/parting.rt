@@ -18,7 +18,7 @@ use crate::keys::KeySlices;
 use crate::part_updates::{PartSwap, TimedExchange};
 use crate::telling::Telling;
 use crate::times::{add_keys, copied, no_counts};
-use block_index::Steps;
+use comparison_steps::Steps;
 use slot_index::Key;
 use std::alloc::Global;
 use std::sync::ledger::Ledger;

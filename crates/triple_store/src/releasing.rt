@@ -13,7 +13,7 @@ ghost use Rattle.triple_store.specs.Telling.{TellsIf, if_told};
 
 use crate::catalog::Catalog;
 use crate::telling::{Change, Sides, Telling};
-use block_index::Steps;
+use comparison_steps::Steps;
 use rdf_term::OutOfMemory;
 use slot_index::Key;
 use std::sync::ledger::Ledger;

@@ -4,7 +4,7 @@ ghost use Rattle.std.specs.Prelude.{◌≡◌, ◌+◌, ◌<◌, ◌≤◌, ◌+
 ghost use Rattle.std.specs.FinMap as map;
 ghost use Rattle.std.specs.{List.All, List.Sorted.IsPermutation, List.Sorted.IsSorted, Ordering.ordering_then};
 ghost use Rattle.rising.specs.Rising.{IsRising, has, sorted};
-ghost use Rattle.block_index.specs.Steps.{WithinSteps};
+ghost use Rattle.comparison_steps.specs.Steps.{WithinSteps};
 ghost use Rattle.rdf_term.specs.{Append.Appends, Order.bytes_cmp, Order.triple_cmp, Pattern.rows, Text.triple_text};
 ghost use Rattle.slot_index.specs.{declared.key.Key.Key as TheKey, Keys.key_cmp};
 ghost use Rattle.triple_store.specs.{Moves.triples_at, Rows.line_of, Rows.text_cmp};
@@ -15,7 +15,7 @@ use crate::catalog::Catalog;
 use crate::ranking::Ranked;
 use crate::reading::read_row;
 use crate::telling::TripleLines;
-use block_index::Steps;
+use comparison_steps::Steps;
 use rdf_term::{List, OutOfMemory, Pattern, TripleSet};
 use slot_index::{Key, SlotPattern};
 use std::alloc::Global;

@@ -11,7 +11,7 @@ ghost use Rattle.triple_store.specs.Telling.{AreLinesOf, LinesIf, if_told, sole}
 use crate::catalog::Catalog;
 use crate::keys::Keys;
 use crate::releasing::find_from;
-use block_index::Steps;
+use comparison_steps::Steps;
 use rdf_term::OutOfMemory;
 use slot_index::Key;
 use std::sync::ledger::Ledger;

@@ -10,7 +10,7 @@ use crate::exchanging::Swap;
 use crate::keys::{KeySlices, Keys};
 use crate::store::Store;
 use crate::telling::{Change, Exchange, Telling};
-use block_index::Steps;
+use comparison_steps::Steps;
 use rdf_term::OutOfMemory;
 use std::marker::Brand;
 use std::sync::ledger::{Blank, Ledger};

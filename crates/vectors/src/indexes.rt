@@ -2,7 +2,8 @@
 
 ghost use Rattle.std.specs.Prelude.{◌≡◌, ◌<◌};
 
-use block_index::{BlockIndex, Steps};
+use block_index::BlockIndex;
+use comparison_steps::Steps;
 use slot_index::Key;
 use std::alloc::Global;
 use std::marker::Brand;
