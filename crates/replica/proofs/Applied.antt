@@ -25,7 +25,7 @@ use Rattle.triple_store.proofs.Distinct.{fewer}
 use Rattle.triple_store.proofs.Keyed.{has_key, keys_rising}
 use Rattle.triple_store.proofs.Rooming.{terms_among}
 use Rattle.triple_store.proofs.Standing.{owned, stored_if}
-use Rattle.triple_store.proofs.Taking.{one_of}
+use Rattle.slot_keys.proofs.Lists.{one_of}
 use Rattle.replica.specs.declared.record.PatchRecord.{PatchRecord}
 use Rattle.replica.specs.Record.{IsSound}
 use Rattle.replica.specs.Replica.{AreOwnedOnce, effect, is_at_side, patched, terms_with}

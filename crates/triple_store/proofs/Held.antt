@@ -15,7 +15,7 @@ use Rattle.term_pool.specs.declared.slots.Entry.{Entry}
 use Rattle.term_pool.specs.declared.pool.Pool.{Pool}
 use Rattle.term_pool.specs.Pool.{IsCanonical, IsNowhere, Interned, LiesIn, Released, SameSlots, count_at, count_of, terms, text_in_slot, live_text}
 use Rattle.term_pool.proofs.Lying.{if_same, text_there, used, used_at}
-use Rattle.slot_index.specs.declared.key.Key.{Key}
+use Rattle.slot_keys.specs.declared.key.Key.{Key}
 use Rattle.triple_texts.specs.declared.triple_text.TripleText.{TripleText}
 use Rattle.triple_store.specs.Interning.{HasTermsOf, InternsTriple, KeepsTexts, ReleasesTriple}
 use Rattle.triple_store.specs.Room.{distinct, terms_of}

@@ -1,5 +1,3 @@
-pub mod Adding
-pub mod AtHand
 pub mod ByRank
 pub mod Costs
 pub mod Differing
@@ -13,7 +11,6 @@ pub mod Laid
 pub mod Lines
 pub mod Listed
 pub mod Live
-pub mod Marked
 pub mod Matched
 pub mod OneOwner
 pub mod Ordered
@@ -31,11 +28,8 @@ pub mod Timed
 pub mod Becoming
 pub mod Lasting
 pub mod Again
-pub mod Searching
 pub mod Afterwards
 pub mod Multitude
 pub mod Along
 pub mod Counted
-pub mod Staying
-pub mod Placing
 pub mod Sole

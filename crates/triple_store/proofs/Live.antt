@@ -14,8 +14,8 @@ use Rattle.text_region.specs.Region.{Texts}
 use Rattle.term_pool.specs.declared.pool.Pool.{Pool}
 use Rattle.term_pool.specs.Pool.{LiesIn, count_at, text_in_slot, live_text}
 use Rattle.term_pool.proofs.Lying.{if_same, used}
-use Rattle.slot_index.specs.declared.key.Key.{Key}
-use Rattle.slot_index.specs.Keys.{key_cmp, key_cmp-total, key_cmp-IsAntisymmetric, same_key}
+use Rattle.slot_keys.specs.declared.key.Key.{Key}
+use Rattle.slot_keys.specs.Keys.{key_cmp, key_cmp-total, key_cmp-IsAntisymmetric, same_key}
 use Rattle.slot_index.specs.Counts.{KeyCounts}
 use Rattle.slot_index.specs.Counts as keyed
 use Rattle.triple_store.specs.Counts.{count_of, with_count}

@@ -21,9 +21,9 @@ use Rattle.text_region.specs.Region.{Texts}
 use Rattle.term_pool.specs.declared.pool.Pool.{Pool}
 use Rattle.term_pool.specs.Pool.{IsCanonical, IsNowhere, LiesIn, count_at, text_in_slot}
 use Rattle.term_pool.proofs.Lying.{stands}
-use Rattle.slot_index.specs.declared.key.Key.{Key}
+use Rattle.slot_keys.specs.declared.key.Key.{Key}
 use Rattle.slot_index.specs.declared.pattern.SlotPattern.{SlotPattern}
-use Rattle.slot_index.specs.Keys.{key_cmp, key_cmp-total, key_cmp-IsAntisymmetric, same_key}
+use Rattle.slot_keys.specs.Keys.{key_cmp, key_cmp-total, key_cmp-IsAntisymmetric, same_key}
 use Rattle.slot_index.specs.Patterns.{slots_agree}
 use Rattle.slot_index.specs.Counts.{KeyCounts}
 use Rattle.slot_index.proofs.Passing.{count-map, count_by-cons, has_counted, one_if}

@@ -26,9 +26,9 @@ use Rattle.rdf_term.proofs.Texts.{triple_cmp-IsAntisymmetric}
 use Rattle.text_region.specs.Region.{Texts}
 use Rattle.term_pool.specs.declared.pool.Pool.{Pool}
 use Rattle.term_pool.specs.Pool.{LiesIn}
-use Rattle.slot_index.specs.declared.key.Key.{Key}
+use Rattle.slot_keys.specs.declared.key.Key.{Key}
 use Rattle.slot_index.specs.declared.pattern.SlotPattern.{SlotPattern}
-use Rattle.slot_index.specs.Keys.{key_cmp, key_cmp-total, key_cmp-IsAntisymmetric}
+use Rattle.slot_keys.specs.Keys.{key_cmp, key_cmp-total, key_cmp-IsAntisymmetric}
 use Rattle.slot_index.specs.Patterns.{slots_agree}
 use Rattle.slot_index.proofs.Passing.{count-filter, count-map, count_by-cons, has_counted, one_if}
 use Rattle.triple_texts.specs.declared.triple_text.TripleText.{TripleText}

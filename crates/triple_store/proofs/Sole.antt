@@ -4,13 +4,12 @@ use Rattle.std.specs.Prelude.{filter}
 use Rattle.std.proofs.lemmas.Bool.{eqb-true}
 use Rattle.std.proofs.lemmas.List.Elements.{filter-append}
 use Rattle.rising.specs.Rising.{has, difference}
-use Rattle.slot_index.specs.declared.key.Key.{Key}
-use Rattle.slot_index.specs.Keys.{key_cmp, key_cmp-total}
+use Rattle.slot_keys.specs.declared.key.Key.{Key}
+use Rattle.slot_keys.specs.Keys.{key_cmp, key_cmp-total}
+use Rattle.slot_keys.proofs.Lists.{difference_more, difference_same, never}
 use Rattle.slot_index.specs.Counts as keyed
 use Rattle.triple_store.specs.declared.catalog.Catalog.{Catalog}
 use Rattle.triple_store.specs.Telling.{sole}
-use Rattle.triple_store.proofs.Removing.{difference_more, difference_same}
-use Rattle.triple_store.proofs.Taking.{never}
 
 -- one more key: it is among the others, or has one owner, or more
 module _ (st : Catalog) (keys others found : List Key) (i : ℕ) (d : Key) (low : i < length keys) (so_far : found ≡ sole st (take i keys) others) where

@@ -23,8 +23,8 @@ use Rattle.term_pool.specs.declared.pool.Pool.{Pool}
 use Rattle.term_pool.specs.Pool.{LiesIn, count_at, beside as pool_beside, has_piece, terms}
 use Rattle.term_pool.proofs.Beside.{MovesBeside}
 use Rattle.term_pool.proofs.Lying.{used_at}
-use Rattle.slot_index.specs.declared.key.Key.{Key}
-use Rattle.slot_index.specs.Keys.{key_cmp, key_cmp-total, key_cmp-IsAntisymmetric}
+use Rattle.slot_keys.specs.declared.key.Key.{Key}
+use Rattle.slot_keys.specs.Keys.{key_cmp, key_cmp-total, key_cmp-IsAntisymmetric}
 use Rattle.slot_index.specs.Counts.{KeyCounts}
 use Rattle.triple_store.specs.declared.catalog.Catalog.{Catalog}
 use Rattle.triple_store.specs.Interning.{KeepsTexts}

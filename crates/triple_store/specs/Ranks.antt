@@ -10,7 +10,7 @@ use Rattle.rdf_term.specs.Undo.{undo}
 use Rattle.text_region.specs.Region.{Texts}
 use Rattle.term_pool.specs.declared.pool.Pool.{Pool}
 use Rattle.term_pool.specs.Pool.{IsCanonical, text_in_slot}
-use Rattle.slot_index.specs.declared.key.Key.{Key}
+use Rattle.slot_keys.specs.declared.key.Key.{Key}
 use Rattle.triple_store.specs.declared.ranking.Ranked.{Ranked}
 use Rattle.triple_store.specs.declared.ranking.SlotText.{SlotText}
 

@@ -3,16 +3,13 @@
 ghost use Rattle.std.specs.Prelude.{◌≡◌, ◌<◌, true, false, length, Some, IfSome, IfErr, IfOk};
 ghost use Rattle.rising.specs.Rising.{IsRising, has};
 ghost use Rattle.term_pool.specs.Pool.{LiesIn, text_in_slot};
-ghost use Rattle.slot_index.specs.{declared.key.Key.Key as TheKey, Keys.key_cmp};
-ghost use Rattle.triple_store.specs.{Added.is_held, Interning.AreHints, Interning.IsOfSubject, Interning.IsOfTripleBefore, Slots.HasTexts};
+ghost use Rattle.slot_keys.specs.{declared.key.Key.Key as TheKey, Added.is_held, Keys.key_cmp};
+ghost use Rattle.triple_store.specs.{Interning.AreHints, Interning.IsOfSubject, Interning.IsOfTripleBefore, Slots.HasTexts};
 ghost use Rattle.triple_store.specs.Stored.{IsStored};
 
-use crate::added::Added;
 use crate::catalog::Catalog;
 use crate::interning::Hints;
-use crate::keys::{KeySlices, NOWHERE, narrowed};
-use crate::seen::Seen;
-use slot_index::Key;
+use slot_keys::{Added, Key, KeySlices, NOWHERE, Seen, narrowed};
 use term_pool::Pool;
 use text_region::Region;
 use triple_texts::{TripleText, TripleTexts};

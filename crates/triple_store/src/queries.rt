@@ -8,11 +8,11 @@ ghost use Rattle.comparison_steps.specs.Steps.{WithinSteps};
 ghost use Rattle.rdf_term.specs.{declared.triple.Triple.Triple as TheTriple, Order.triple_cmp, Pattern.rows};
 ghost use Rattle.triple_store.specs.{Counts.count_of, StoreState.AreKeysOf, StoreState.counts_in, Updates.AreStored};
 
-use crate::keys::KeySlices;
 use crate::rows::Rows;
 use crate::store::Store;
 use comparison_steps::Steps;
 use rdf_term::{OutOfMemory, Pattern, Triple, TripleSet};
+use slot_keys::KeySlices;
 use std::marker::Brand;
 use std::sync::ledger::{Blank, Ledger};
 

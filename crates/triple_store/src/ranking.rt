@@ -8,9 +8,8 @@ ghost use Rattle.triple_store.specs.Ranks.{AreRankedRows, AreTextsOf, IsRanked, 
 ghost use Rattle.triple_store.specs.{Slots.HasCanonicalTexts, Slots.triple_at, Slots.triple_of, Stored.IsStored};
 
 use crate::catalog::Catalog;
-use crate::keys::{NOWHERE, narrowed};
 use rdf_term::OutOfMemory;
-use slot_index::Key;
+use slot_keys::{Key, NOWHERE, narrowed};
 use std::alloc::Global;
 use text_region::Region;
 use triple_texts::TripleText;

@@ -6,7 +6,7 @@ ghost use Rattle.std.specs.{List.All, List.Sorted.IsPermutation, List.Sorted.IsS
 ghost use Rattle.rising.specs.Rising.{IsRising, has, sorted};
 ghost use Rattle.comparison_steps.specs.Steps.{WithinSteps};
 ghost use Rattle.rdf_term.specs.{Append.Appends, Order.bytes_cmp, Order.triple_cmp, Pattern.rows, Text.triple_text};
-ghost use Rattle.slot_index.specs.{declared.key.Key.Key as TheKey, Keys.key_cmp};
+ghost use Rattle.slot_keys.specs.{declared.key.Key.Key as TheKey, Keys.key_cmp};
 ghost use Rattle.triple_store.specs.{Moves.triples_at, Rows.line_of, Rows.text_cmp};
 ghost use Rattle.triple_store.specs.Slots.{HasCanonicalTexts, HasTexts, triple_at, triple_of};
 ghost use Rattle.triple_store.specs.{Stored.IsStored, Stored.counts_in, Stored.is_key, Telling.AreLinesOf};
@@ -17,7 +17,8 @@ use crate::reading::read_row;
 use crate::telling::TripleLines;
 use comparison_steps::Steps;
 use rdf_term::{List, OutOfMemory, Pattern, TripleSet};
-use slot_index::{Key, SlotPattern};
+use slot_index::SlotPattern;
+use slot_keys::Key;
 use std::alloc::Global;
 use std::cmp::Ordering;
 use std::marker::Model;

@@ -1,7 +1,7 @@
 -- The uses that were counted are taken back, and a pool is full only where its terms and the triple's are too many.
 use Rattle.std.proofs.Common.{◌≡◌, ◌<◌, Result, Err, ◌∙◌, ap, subst}
 use Rattle.term_pool.specs.declared.fault.PoolFault.{PoolFault}
-use Rattle.slot_index.specs.declared.key.Key.{Key}
+use Rattle.slot_keys.specs.declared.key.Key.{Key}
 use Rattle.triple_store.specs.Room.{distinct}
 use Rattle.triple_store.specs.Slots.{triple_of}
 use Rattle.triple_store.proofs.Held.{held, terms_interned, three, too_many, undone, used_then}

@@ -4,10 +4,10 @@ use Rattle.std.proofs.Math.Seq.{take-length}
 use Rattle.std.proofs.lemmas.List.{length-append}
 use Rattle.rising.specs.Rising.{has}
 use Rattle.rising.proofs.Rising.{IsRising-sorted}
-use Rattle.slot_index.specs.Keys.{key_cmp, key_cmp-total}
+use Rattle.slot_keys.specs.KeyCounts.{counted_keys}
+use Rattle.slot_keys.specs.Keys.{key_cmp, key_cmp-total}
 use Rattle.triple_store.specs.Telling.{if_told}
 use Rattle.triple_store.proofs.Again.{again}
-use Rattle.triple_store.specs.Times.{counted_keys}
 use Rattle.triple_store.proofs.Afterwards.{stays_among}
 use Rattle.triple_store.proofs.Along.{along_then, met_stored}
 use Rattle.triple_store.proofs.Costs.{at_most, came_and_went, counted, told_between, told_fewer}

@@ -1,7 +1,7 @@
 -- The key at the index that is found has the texts.
 use Rattle.std.proofs.Common.{sym, subst}
 use Rattle.std.proofs.lemmas.Option.{IfSome_then, get_or_from_slice_get, slice_get_within}
-use Rattle.slot_index.specs.declared.key.Key.{Key}
+use Rattle.slot_keys.specs.declared.key.Key.{Key}
 use Rattle.triple_store.specs.Slots.{HasTexts}
 use Rattle.triple_store.proofs.catalog.Catalog.index_of.Goals as goal
 

@@ -1,0 +1,4 @@
+pub mod Added
+pub mod KeyCounts
+pub mod Keys
+pub mod Marks
