@@ -22,7 +22,7 @@ use Rattle.triple_store.specs.Room.{distinct, room_for, terms_of}
 use Rattle.triple_store.specs.StoreState.{StoreState, IsSound as StoreIsSound, counts_in, limit_of}
 use Rattle.triple_store.specs.Updates.{IsPatched, KeepsRest, MayCome, MayGo}
 use Rattle.triple_store.proofs.Distinct.{fewer}
-use Rattle.triple_store.proofs.Keyed.{has_key, keys_rising}
+use Rattle.slot_keys.proofs.Keyed.{has_key, keys_rising}
 use Rattle.triple_store.proofs.Rooming.{terms_among}
 use Rattle.triple_store.proofs.Standing.{owned, stored_if}
 use Rattle.slot_keys.proofs.Lists.{one_of}

@@ -1,6 +1,8 @@
 pub mod Adding
 pub mod AtHand
+pub mod Imaged
 pub mod KeyTimes
+pub mod Keyed
 pub mod Lists
 pub mod Marked
 pub mod Placing

@@ -2,3 +2,4 @@ pub mod Added
 pub mod KeyCounts
 pub mod Keys
 pub mod Marks
+pub mod Ranks

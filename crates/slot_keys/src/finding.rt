@@ -8,6 +8,9 @@ ghost use Rattle.slot_keys.specs.Keys.{key_cmp};
 use crate::key::Key;
 use crate::keys::KeySlices;
 
+// How far ahead in the walk an index is looked for, which was found by a search.
+const AHEAD: usize = 64;
+
 /// Where a key stands in a rising list, or would stand. A place is tried first, so that to look for the keys of a list that
 /// has nearly the same ones costs no search.
 pub fn find_from(keys: &[Key], key: Key, next: usize) -> Result<usize, usize>
@@ -42,4 +45,15 @@ pub fn index_from(keys: &[Key], key: Key, first: usize) -> Option<usize>
         Ok(index) => Some(index),
         Err(_) => None,
     }
+}
+
+/// Where the walk goes on after an index that is near. Only a hint: if the index isn't near, the walk stays where it was.
+pub fn behind(walk: &[u32], next: usize, old_index: u32) -> usize {
+    for past in 0..AHEAD {
+        let at = next.saturating_add(past);
+        if walk.get(at) == Some(&old_index) {
+            return at.saturating_add(1);
+        }
+    }
+    next
 }

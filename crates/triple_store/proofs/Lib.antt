@@ -4,8 +4,6 @@ pub mod Differing
 pub mod Distinct
 pub mod Exchanged
 pub mod Held
-pub mod Imaged
-pub mod Keyed
 pub mod Known
 pub mod Laid
 pub mod Lines

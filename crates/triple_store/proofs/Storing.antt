@@ -19,6 +19,7 @@ use Rattle.term_pool.specs.Pool.{IsCanonical, LiesIn, count_at, one_if, text_in_
 use Rattle.term_pool.proofs.Lying.{if_other, used_at}
 use Rattle.slot_keys.specs.declared.key.Key.{Key}
 use Rattle.slot_keys.specs.Keys.{key_cmp, key_cmp-total, key_cmp-IsAntisymmetric, same_key}
+use Rattle.slot_keys.proofs.Keyed.{gone, keys-insert, keys-insert_again, keys-remove, sum-insert_key, has_key}
 use Rattle.slot_index.specs.Counts.{KeyCounts}
 use Rattle.slot_index.specs.Counts as keyed
 use Rattle.slot_index.proofs.Owners as keyed_owners
@@ -30,7 +31,6 @@ use Rattle.triple_store.specs.Slots.{HasCanonicalTexts, HasTermsIn, HasTexts, Ha
 use Rattle.triple_store.specs.Slots as slots
 use Rattle.triple_store.specs.Stored.{HasKey, IsStored, KeepsKeys, counts_in, image}
 use Rattle.triple_store.proofs.Held.{three}
-use Rattle.triple_store.proofs.Keyed.{gone, keys-insert, keys-insert_again, keys-remove, sum-insert_key, has_key}
 use Rattle.triple_store.proofs.Live.{AreLive, count_image, get_image, image_changed, image_kept, live_counted, live-with_count, tells, uses_first, uses_second, uses_third, uses_there}
 
 -- ---- counts of keys

@@ -4,8 +4,8 @@ use Rattle.std.specs.Prelude.{map as mapped}
 use Rattle.std.specs.List.{All}
 use Rattle.std.proofs.lemmas.List.{map_push, take_all, take_more}
 use Rattle.std.proofs.lemmas.List.Elements.{All-push}
-use Rattle.triple_store.specs.Ranks.{IsRanked, rank_key}
-use Rattle.triple_store.proofs.ranking.ranked_keys.Goals as goal
+use Rattle.slot_keys.specs.Ranks.{IsRanked, rank_key}
+use Rattle.slot_keys.proofs.ranking.ranked_keys.Goals as goal
 
 pub loop-key-preserved : goal.loop-key-preserved
 loop-key-preserved c =
