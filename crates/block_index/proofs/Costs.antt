@@ -2,7 +2,7 @@
 use Rattle.std.proofs.Common.{◌≡◌, ℕ, zero, suc, ◌+◌, ◌-◌, ◌*◌, ◌^◌, ◌<◌, ◌≤◌, sym, subst, arith, ⊎_elim}
 use Rattle.std.proofs.lemmas.Bool.{cases_lt}
 use Rattle.std.proofs.Math.Nat.{pow-suc}
-use Rattle.block_index.specs.Steps.{WithinSteps, Left}
+use Rattle.comparison_steps.specs.Steps.{WithinSteps, Left}
 
 -- half of a gap below 2 ^ e is below 2 ^ (e - 1)
 halved : (e gap next : ℕ) → 0 < gap → next + next ≤ gap → gap < 2 ^ e → (0 < e) × (next < 2 ^ (e - 1))

@@ -1,7 +1,7 @@
 -- One step of a binary search, and where it ends.
 use Rattle.std.proofs.Common.{◌≡◌, ℕ, ◌+◌, ◌-◌, ◌/◌, ◌<◌, List, [], length, get_or, Ordering, Less, Equal, Greater, sym, ◌∙◌, ap, arith}
 use Rattle.std.proofs.lemmas.List.{get_or_read}
-use Rattle.block_index.specs.Steps.{Left}
+use Rattle.comparison_steps.specs.Steps.{Left}
 use Rattle.block_index.specs.Search.{IsAfter, IsBefore, IsAfterBlock, IsBeforeBlock, first_at}
 use Rattle.block_index.proofs.Costs.{left_step}
 

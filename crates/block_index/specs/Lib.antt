@@ -2,5 +2,4 @@ pub mod Blocks
 pub mod Edit
 pub mod Groups
 pub mod Search
-pub mod Steps
 pub mod Taking

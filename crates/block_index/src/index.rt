@@ -3,16 +3,16 @@
 ghost use Rattle.std.specs.Prelude.{◌≡◌, ℕ, ◌+◌, ◌*◌, ◌^◌, ◌<◌, ◌≤◌, not, [], length, slice_index_or, IfOk, OnOk, OnErr};
 ghost use Rattle.std.specs.{Bool.OnFalse, Ordering.eq_by_cmp, BTreeSet.insert_key, Set.remove_key};
 ghost use Rattle.rising.specs.Rising.{IsRising, has};
-ghost use Rattle.block_index.specs.{Steps.WithinSteps, Blocks.AreFilled, Blocks.ChangesTwo, Blocks.keys_between, Blocks.keys_of};
+ghost use Rattle.comparison_steps.specs.Steps.{WithinSteps};
+ghost use Rattle.block_index.specs.{Blocks.AreFilled, Blocks.ChangesTwo, Blocks.keys_between, Blocks.keys_of};
 
 use crate::counting::count_between;
 use crate::edit::{put_in, take_out};
 use crate::group::{Group, block_at, count_blocks};
-use crate::ranked::Ranked;
 use crate::search::{behind, locate};
-use crate::steps::Steps;
 use crate::taking::take_from;
 use base::{List, OutOfMemory};
+use comparison_steps::{Ranked, Steps};
 use std::alloc::Global;
 use std::marker::Model;
 use std::sync::ledger::Ledger;

@@ -1,8 +1,7 @@
 //! A sorted set of keys in small blocks, whose calls count their comparisons.
 //!
-//! `ranked` has what a key must be able to do, and `steps` the counter of comparisons. `index` has the set:
-//! its keys stand in rising order in blocks of 1 to 128, and the blocks in groups of 64 to 128, so a change moves few
-//! keys and few blocks, and touches at most two neighbouring blocks. Below it, `block` has one block and `group` one
+//! `index` has the set: its keys, of any type that is compared in counted steps, stand in rising order in blocks of 1 to 128,
+//! and the blocks in groups of 64 to 128, so a change moves few keys and few blocks, and touches at most two neighbouring blocks. Below it, `block` has one block and `group` one
 //! group, `search` finds a key's position by three binary searches, `edit` puts a key in or takes it out at a
 //! position, `taking` copies the keys of a range, and `counting` says how many stand between two positions.
 #![tactic(auto)]
@@ -12,11 +11,7 @@ mod counting;
 mod edit;
 mod group;
 mod index;
-mod ranked;
 mod search;
-mod steps;
 mod taking;
 
 pub use index::BlockIndex;
-pub use ranked::Ranked;
-pub use steps::Steps;

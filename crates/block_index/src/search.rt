@@ -2,14 +2,14 @@
 
 ghost use Rattle.std.specs.Prelude.{◌≡◌, ◌+◌, ◌-◌, ◌<◌, ◌≤◌, length, map};
 ghost use Rattle.rising.specs.{Counting.one_if, Rising.IsRising};
-ghost use Rattle.block_index.specs.{Steps.WithinSteps, Blocks.AreFilled, Blocks.keys_of};
+ghost use Rattle.comparison_steps.specs.Steps.{WithinSteps};
+ghost use Rattle.block_index.specs.{Blocks.AreFilled, Blocks.keys_of};
 ghost use Rattle.block_index.specs.Groups.{AreGroups, IsInside, index_of};
 ghost use Rattle.block_index.specs.Search.{EndsAt, EndsAtBlock, IsAfter, IsAfterBlock, Stands};
 
 use crate::block::Block;
 use crate::group::Group;
-use crate::ranked::Ranked;
-use crate::steps::Steps;
+use comparison_steps::{Ranked, Steps};
 use std::cmp::Ordering;
 use std::sync::ledger::Ledger;
 

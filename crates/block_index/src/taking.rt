@@ -5,10 +5,9 @@ ghost use Rattle.block_index.specs.{Blocks.keys_of, Groups.IsInside, Groups.inde
 
 use crate::block::Block;
 use crate::group::Group;
-use crate::ranked::Ranked;
 use crate::search::Position;
-use crate::steps::Steps;
 use base::OutOfMemory;
+use comparison_steps::{Ranked, Steps};
 use std::sync::ledger::Ledger;
 
 /// Copies the keys from a position on until the first above `to`; whether there was none. Each key that is looked at is one step.

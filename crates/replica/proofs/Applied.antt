@@ -22,10 +22,10 @@ use Rattle.triple_store.specs.Room.{distinct, room_for, terms_of}
 use Rattle.triple_store.specs.StoreState.{StoreState, IsSound as StoreIsSound, counts_in, limit_of}
 use Rattle.triple_store.specs.Updates.{IsPatched, KeepsRest, MayCome, MayGo}
 use Rattle.triple_store.proofs.Distinct.{fewer}
-use Rattle.triple_store.proofs.Keyed.{has_key, keys_rising}
+use Rattle.slot_keys.proofs.Keyed.{has_key, keys_rising}
 use Rattle.triple_store.proofs.Rooming.{terms_among}
 use Rattle.triple_store.proofs.Standing.{owned, stored_if}
-use Rattle.triple_store.proofs.Taking.{one_of}
+use Rattle.slot_keys.proofs.Lists.{one_of}
 use Rattle.replica.specs.declared.record.PatchRecord.{PatchRecord}
 use Rattle.replica.specs.Record.{IsSound}
 use Rattle.replica.specs.Replica.{AreOwnedOnce, effect, is_at_side, patched, terms_with}

@@ -11,8 +11,8 @@ use Rattle.rising.specs.Rising.{has, IsRising}
 use Rattle.rising.proofs.Bools.{clash, equal, or_false, or_true}
 use Rattle.rising.proofs.Rising.{has-insert_key, has-tied_above}
 use Rattle.rising.proofs.Sorting.{IsStrictlySortedBy-from_rising}
-use Rattle.slot_index.specs.declared.key.Key.{Key}
-use Rattle.slot_index.specs.Keys.{key_cmp, key_cmp-total, key_cmp-IsAntisymmetric, same_key}
+use Rattle.slot_keys.specs.declared.key.Key.{Key}
+use Rattle.slot_keys.specs.Keys.{key_cmp, key_cmp-total, key_cmp-IsAntisymmetric, same_key}
 use Rattle.slot_index.specs.Counts.{KeyCounts, HaveOwners, count_of, counts_of, raised, lowered}
 use Rattle.slot_index.specs.Counted.{with_more, IsCounted}
 use Rattle.slot_index.proofs.Mapped.{got, keys_ordered, len_ordered}

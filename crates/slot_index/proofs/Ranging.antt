@@ -9,10 +9,10 @@ use Rattle.std.proofs.lemmas.List.Elements.{All-head, All-tail}
 use Rattle.rising.proofs.Bools.{clash}
 use Rattle.rising.proofs.Rising as rise
 use Rattle.block_index.specs.Blocks.{keys_between}
-use Rattle.block_index.specs.Steps.{WithinSteps}
-use Rattle.slot_index.specs.declared.key.Key.{Key}
+use Rattle.comparison_steps.specs.Steps.{WithinSteps}
+use Rattle.slot_keys.specs.declared.key.Key.{Key}
+use Rattle.slot_keys.specs.Keys.{FitsSlots, key_cmp, turned}
 use Rattle.slot_index.specs.declared.pattern.SlotPattern.{SlotPattern}
-use Rattle.slot_index.specs.Keys.{FitsSlots, key_cmp, turned}
 use Rattle.slot_index.specs.Orders.{IsTurned}
 use Rattle.slot_index.specs.Patterns.{slots_agree, slot_agrees_at, turned_pattern, leads, leads_at, low, high}
 use Rattle.slot_index.proofs.Passing.{count-map, count-filter, count-alike}

@@ -8,8 +8,8 @@ use Rattle.std.proofs.lemmas.Map.Views.{All-insert_key, All-remove_key}
 use Rattle.rising.specs.Rising.{has}
 use Rattle.rising.proofs.Rising.{IsRising-insert_key}
 use Rattle.block_index.proofs.Removed.{IsRising-remove_key, remove_key-absent}
-use Rattle.slot_index.specs.declared.key.Key.{Key}
-use Rattle.slot_index.specs.Keys.{FitsSlots, key_cmp, key_cmp-total, key_cmp-IsAntisymmetric, same_key, turned}
+use Rattle.slot_keys.specs.declared.key.Key.{Key}
+use Rattle.slot_keys.specs.Keys.{FitsSlots, key_cmp, key_cmp-total, key_cmp-IsAntisymmetric, same_key, turned}
 use Rattle.slot_index.specs.Orders.{IsTurned, IsOrders}
 use Rattle.slot_index.proofs.Passing.{one_if, count-insert_key, count-remove_key, count-alike, has_counted, length_counted, remove-insert_key}
 

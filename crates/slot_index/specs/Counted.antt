@@ -2,8 +2,8 @@
 use Rattle.std.specs.Prelude.{◌≡◌, ◌+◌, ◌<◌, true, List}
 use Rattle.std.specs.Prelude.{map as mapped}
 use Rattle.rising.specs.Rising.{has}
-use Rattle.slot_index.specs.declared.key.Key.{Key}
-use Rattle.slot_index.specs.Keys.{key_cmp}
+use Rattle.slot_keys.specs.declared.key.Key.{Key}
+use Rattle.slot_keys.specs.Keys.{key_cmp}
 use Rattle.slot_index.specs.Counts.{KeyCounts, HaveOwners, count_of, counts_of}
 
 -- each triple of the list, with one owner and as many as are counted beside it

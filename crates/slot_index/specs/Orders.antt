@@ -2,8 +2,8 @@
 use Rattle.std.specs.Prelude.{◌≡◌, Bool, List, count_by}
 use Rattle.std.specs.List.{All}
 use Rattle.rising.specs.Rising.{IsRising}
-use Rattle.slot_index.specs.declared.key.Key.{Key}
-use Rattle.slot_index.specs.Keys.{FitsSlots, key_cmp, turned}
+use Rattle.slot_keys.specs.declared.key.Key.{Key}
+use Rattle.slot_keys.specs.Keys.{FitsSlots, key_cmp, turned}
 
 -- the second list has the turned triples of the first: each test passes as often
 pub record IsTurned (xs ys : List Key) : Type 0 where

@@ -3,16 +3,17 @@
 ghost use Rattle.std.specs.Prelude.{◌≡◌, ◌+◌, ◌*◌, ◌^◌, ◌<◌, ◌≤◌, ◌==◌, ◌&&◌, ℕ, Bool, length, count_by, IfOk, OnOk, OnErr};
 ghost use Rattle.std.specs.FinMap as map;
 ghost use Rattle.rising.specs.Rising.{IsRising};
-ghost use Rattle.block_index.specs.Steps.{WithinSteps};
-ghost use Rattle.slot_index.specs.{declared.key.Key.Key as TheKey, Keys.key_cmp, Patterns.slots_agree};
+ghost use Rattle.comparison_steps.specs.Steps.{WithinSteps};
+ghost use Rattle.slot_keys.specs.{declared.key.Key.Key as TheKey, Keys.key_cmp};
+ghost use Rattle.slot_index.specs.Patterns.{slots_agree};
 ghost use Rattle.slot_index.specs.Counts.{HaveOwners, count_of, lowered, raised};
 
 use crate::counting::{lower, owners, raise};
-use crate::key::Key;
 use crate::orders::Orders;
 use crate::pattern::SlotPattern;
 use base::{List, OutOfMemory};
-use block_index::Steps;
+use comparison_steps::Steps;
+use slot_keys::Key;
 use std::alloc::Global;
 use std::collections::BTreeMap;
 use std::marker::Model;

@@ -3,8 +3,8 @@
 ghost use Rattle.std.specs.Prelude.{◌≡◌, ◌<◌, OnOk, OnErr};
 ghost use Rattle.slot_index.specs.Counts.{count_of, counts_of, lowered, raised};
 
-use crate::key::Key;
 use base::OutOfMemory;
+use slot_keys::Key;
 use std::collections::BTreeMap;
 
 /// How many owners are counted: none where the triple isn't there.

@@ -3,14 +3,16 @@
 ghost use Rattle.std.specs.Prelude.{◌≡◌, ◌+◌, ◌*◌, ◌^◌, ◌<◌, ◌≤◌, ◌&&◌, ℕ, Bool, true, not, [], length, map, filter, count_by, IfOk, OnOk, OnErr};
 ghost use Rattle.std.specs.{Bool.OnFalse, List.All, Ordering.eq_by_cmp, BTreeSet.insert_key, Set.remove_key};
 ghost use Rattle.rising.specs.Rising.{IsRising, has};
-ghost use Rattle.block_index.specs.{Steps.WithinSteps, Blocks.keys_of};
-ghost use Rattle.slot_index.specs.{declared.key.Key.Key as TheKey, Keys.FitsSlots, Keys.key_cmp, Keys.turned};
+ghost use Rattle.block_index.specs.Blocks.{keys_of};
+ghost use Rattle.comparison_steps.specs.Steps.{WithinSteps};
+ghost use Rattle.slot_keys.specs.{declared.key.Key.Key as TheKey, Keys.FitsSlots, Keys.key_cmp, Keys.turned};
 ghost use Rattle.slot_index.specs.Patterns.{slots_agree, leads};
 
-use crate::key::Key;
 use crate::pattern::SlotPattern;
 use base::{List, OutOfMemory};
-use block_index::{BlockIndex, Steps};
+use block_index::BlockIndex;
+use comparison_steps::Steps;
+use slot_keys::Key;
 use std::alloc::Global;
 use std::marker::Model;
 use std::sync::ledger::Ledger;
@@ -26,7 +28,8 @@ pub struct Orders {
 impl Model for Orders {
     ghost use Rattle.std.specs.Prelude.{List as Items};
     ghost use Rattle.block_index.specs.Blocks.{keys_of};
-    ghost use Rattle.slot_index.specs.{declared.key.Key.Key, Orders.IsOrders};
+    ghost use Rattle.slot_keys.specs.declared.key.Key.{Key};
+    ghost use Rattle.slot_index.specs.Orders.{IsOrders};
 
     ghost Value = { Items Key };
 

@@ -3,7 +3,7 @@
 ghost use Rattle.std.specs.Prelude.{◌≡◌};
 ghost use Rattle.slot_index.specs.Patterns.{high, leads, low, turned_pattern};
 
-use crate::key::Key;
+use slot_keys::Key;
 
 /// What triples of slots are asked for by: a place that is `None` agrees with every slot.
 #[derive(Clone, Copy, Debug)]

@@ -18,7 +18,7 @@ use Rattle.entity_model.specs.EntityId.{entity_cmp, entity_cmp_total}
 use Rattle.entity_state.specs.declared.record.Held.{Held}
 use Rattle.entity_state.specs.declared.record.Record.{Record}
 use Rattle.entity_state.specs.Record.{blank}
-use Rattle.triple_store.proofs.Taking.{one_of, or_left}
+use Rattle.slot_keys.proofs.Lists.{one_of, or_left}
 use Rattle.replay_model.specs.Records.{Bytes, Records}
 use Rattle.replay_model.specs.Union.{Meaning, triples_held, union}
 use Rattle.replay_model.specs.Versions.{all_by, meaning_by, version_at}

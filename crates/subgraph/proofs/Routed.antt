@@ -18,7 +18,7 @@ use Rattle.entity_state.specs.Record.{blank}
 use Rattle.triple_store.specs.Room.{distinct, terms_of}
 use Rattle.triple_store.proofs.Distinct.{fewer}
 use Rattle.triple_store.proofs.Rooming.{terms_among}
-use Rattle.triple_store.proofs.Taking.{one_of, or_left}
+use Rattle.slot_keys.proofs.Lists.{one_of, or_left}
 use Rattle.replay_model.specs.Records.{Bytes, Records, record_of}
 use Rattle.replay_model.specs.Union.{Meaning, triples_held, union}
 use Rattle.subgraph.specs.Entries.{Entry, graph_triples, triples_in}

@@ -13,9 +13,9 @@ use Rattle.rdf_term.specs.Order.{triple_cmp, triple_cmp-total}
 use Rattle.rdf_term.proofs.Texts.{triple_cmp-IsAntisymmetric}
 use Rattle.entity_model.specs.declared.id.EntityId.{EntityId}
 use Rattle.entity_model.specs.EntityId.{entity_cmp, entity_cmp_total, entity_cmp_same}
-use Rattle.slot_index.specs.declared.key.Key.{Key}
-use Rattle.slot_index.specs.Keys.{key_cmp}
-use Rattle.triple_store.specs.declared.keys.Keys.{Keys}
+use Rattle.slot_keys.specs.declared.key.Key.{Key}
+use Rattle.slot_keys.specs.Keys.{key_cmp}
+use Rattle.slot_keys.specs.declared.keys.Keys.{Keys}
 use Rattle.triple_store.specs.Counts.{Counts, Exchanges, count_of}
 use Rattle.triple_store.specs.Moves.{triples_at}
 use Rattle.triple_store.specs.Slots.{triple_at}

@@ -9,8 +9,8 @@ use Rattle.rdf_term.specs.declared.triple.Triple.{Triple}
 use Rattle.rdf_term.specs.Order.{triple_cmp}
 use Rattle.entity_model.specs.declared.id.EntityId.{EntityId}
 use Rattle.entity_model.specs.EntityId.{entity_cmp}
-use Rattle.slot_index.specs.declared.key.Key.{Key}
-use Rattle.triple_store.specs.declared.keys.Keys.{Keys}
+use Rattle.slot_keys.specs.declared.key.Key.{Key}
+use Rattle.slot_keys.specs.declared.keys.Keys.{Keys}
 use Rattle.triple_store.specs.Counts.{count_of}
 use Rattle.triple_store.specs.Moves.{triples_at}
 use Rattle.triple_store.specs.StoreState.{AreKeysOf, IsSound, StoreState, counts_in}

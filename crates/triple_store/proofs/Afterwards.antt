@@ -11,8 +11,11 @@ use Rattle.rdf_term.specs.declared.triple.Triple.{Triple}
 use Rattle.rdf_term.specs.Order.{term_cmp, term_cmp-total, triple_cmp}
 use Rattle.rdf_term.proofs.Texts.{term_cmp-IsAntisymmetric}
 use Rattle.text_region.specs.Region.{Texts}
-use Rattle.slot_index.specs.declared.key.Key.{Key}
-use Rattle.slot_index.specs.Keys.{key_cmp, key_cmp-total}
+use Rattle.slot_keys.specs.declared.key.Key.{Key}
+use Rattle.slot_keys.specs.KeyCounts.{AddKeys, MovesKeys, count_beside, counted_keys}
+use Rattle.slot_keys.specs.Keys.{key_cmp, key_cmp-total}
+use Rattle.slot_keys.proofs.Lists.{has_at, one_of, or_left}
+use Rattle.slot_keys.proofs.Searching.{beside_at, beside_none}
 use Rattle.triple_store.specs.declared.catalog.Catalog.{Catalog}
 use Rattle.triple_store.specs.declared.part_updates.TimedExchange.{TimedExchange}
 use Rattle.triple_store.specs.declared.telling.Telling.{Telling}
@@ -24,18 +27,15 @@ use Rattle.triple_store.specs.Room.{room_for, terms_of}
 use Rattle.triple_store.specs.Slots.{triple_at}
 use Rattle.triple_store.specs.Stored.{AreKeysOf, HasKey, IsStored, KeepsKeys, counts_in, is_key, limit_of}
 use Rattle.triple_store.specs.Telling.{TellsIf}
-use Rattle.triple_store.specs.Times.{AddKeys, AddTimes, AreTimesOf, Becomes, MovesKeys, count_beside, counted_keys, times, triple_of_key}
+use Rattle.triple_store.specs.Times.{AddTimes, AreTimesOf, Becomes, times, triple_of_key}
 use Rattle.triple_store.proofs.Becoming.{at_index, becomes, counted-has, left_of, times_some}
 use Rattle.triple_store.proofs.Counted.{key_often, keys_times}
 use Rattle.triple_store.proofs.Exchanged.{same_test}
 use Rattle.triple_store.proofs.Live.{key_same, tells}
 use Rattle.triple_store.proofs.Parts.{stand_themselves}
-use Rattle.triple_store.proofs.Removing.{has_at}
 use Rattle.triple_store.proofs.Rooming.{terms_among}
-use Rattle.triple_store.proofs.Searching.{beside_at, beside_none}
 use Rattle.triple_store.proofs.Standing.{counted_key}
 use Rattle.triple_store.proofs.Stocked.{term_of}
-use Rattle.triple_store.proofs.Taking.{one_of, or_left}
 
 -- ---- lists of the same triples
 
@@ -142,12 +142,6 @@ module _ (st : Catalog) (r : Texts) (new : Catalog) (u : Texts) (had keys : List
           ap (λ v. times v after) same,
         );
   }
-
-pub moves_keys : (had : List Key) (left : List ℕ) (keys : List Key) (moved added : List ℕ) (met : List Key) → length moved ≡ length keys → ((index : ℕ) (other : Key) → index < length keys → get_or moved index 0 ≡ count_beside had left (get_or keys index other)) → AddKeys keys moved added met → MovesKeys had left keys added met
-moves_keys had left keys moved added met as_many moves more = record {
-  as_many = more.as_many ∙ as_many;
-  counted = λ index other low. omega (arith, more.counted index other low, moves index other low);
-}
 
 -- ---- the whole exchange
 

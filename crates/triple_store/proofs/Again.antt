@@ -2,7 +2,7 @@
 use Rattle.std.proofs.Common.{◌≡◌, ◌<◌, true, List, sym, ◌∙◌, subst, arith}
 use Rattle.rdf_term.specs.declared.triple.Triple.{Triple}
 use Rattle.text_region.specs.Region.{Texts}
-use Rattle.slot_index.specs.declared.key.Key.{Key}
+use Rattle.slot_keys.specs.declared.key.Key.{Key}
 use Rattle.triple_store.specs.declared.catalog.Catalog.{Catalog}
 use Rattle.triple_store.specs.Counts.{count_of}
 use Rattle.triple_store.specs.Moves.{Removes, TakesIn}

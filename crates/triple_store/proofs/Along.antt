@@ -9,8 +9,9 @@ use Rattle.rdf_term.specs.Order.{triple_cmp}
 use Rattle.triple_texts.specs.declared.triple_text.TripleText.{TripleText}
 use Rattle.triple_texts.specs.Texts.{IsTextOf}
 use Rattle.text_region.specs.Region.{Texts}
-use Rattle.slot_index.specs.declared.key.Key.{Key}
-use Rattle.slot_index.specs.Keys.{key_cmp, key_cmp-total}
+use Rattle.slot_keys.specs.declared.key.Key.{Key}
+use Rattle.slot_keys.specs.Keys.{key_cmp, key_cmp-total}
+use Rattle.slot_keys.proofs.Lists.{or_left}
 use Rattle.triple_store.specs.declared.catalog.Catalog.{Catalog}
 use Rattle.triple_store.specs.Moves.{Removes, TakesIn, triples_at}
 use Rattle.triple_store.specs.Slots.{HasTexts, triple_at, triple_of}
@@ -20,7 +21,6 @@ use Rattle.triple_store.proofs.Exchanged.{mapped_alike}
 use Rattle.triple_store.proofs.Listed.{row}
 use Rattle.triple_store.proofs.Live.{tells}
 use Rattle.triple_store.proofs.Standing.{texts_triple}
-use Rattle.triple_store.proofs.Taking.{or_left}
 
 -- one key more, whose triple is the next
 along_push : (st : Catalog) (r : Texts) (keys : List Key) (key : Key) (done more : List Triple) (t : Triple) → triple_at st.pool r key ≡ t → triples_at st r keys ≡ done → more ≡ done ++ t ∷ [] → triples_at st r (keys ++ key ∷ []) ≡ more

@@ -10,17 +10,18 @@ use Rattle.rdf_term.specs.declared.triple.Triple.{Triple}
 use Rattle.rdf_term.specs.Order.{triple_cmp}
 use Rattle.text_region.specs.Region.{Texts}
 use Rattle.term_pool.specs.Pool.{one_if}
-use Rattle.slot_index.specs.declared.key.Key.{Key}
-use Rattle.slot_index.specs.Keys.{key_cmp, key_cmp-IsAntisymmetric, key_cmp-total}
+use Rattle.slot_keys.specs.declared.key.Key.{Key}
+use Rattle.slot_keys.specs.KeyCounts.{counted_keys}
+use Rattle.slot_keys.specs.Keys.{key_cmp, key_cmp-IsAntisymmetric, key_cmp-total}
+use Rattle.slot_keys.proofs.Lists.{one_of, or_left}
 use Rattle.triple_store.specs.declared.catalog.Catalog.{Catalog}
 use Rattle.triple_store.specs.Slots.{triple_at}
 use Rattle.triple_store.specs.Stored.{HasKey}
 use Rattle.triple_store.specs.Moves.{triples_at}
-use Rattle.triple_store.specs.Times.{AddTimes, AreTimesOf, Becomes, counted_keys, times, triple_of_key}
+use Rattle.triple_store.specs.Times.{AddTimes, AreTimesOf, Becomes, times, triple_of_key}
 use Rattle.triple_store.proofs.Exchanged.{same_test}
 use Rattle.triple_store.proofs.Live.{tells}
 use Rattle.triple_store.proofs.Standing.{has-triples_at, triples_at-has}
-use Rattle.triple_store.proofs.Taking.{one_of, or_left}
 
 -- a triple stands in a list where it comes once at least
 pub times-cons : (t u : Triple) (ts : List Triple) → times t (u ∷ ts) ≡ cond (eq_by_cmp triple_cmp t u) 1 0 + times t ts

@@ -21,10 +21,11 @@ use Rattle.rdf_term.specs.Undo.{undo}
 use Rattle.text_region.specs.Region.{Texts}
 use Rattle.term_pool.specs.declared.pool.Pool.{Pool}
 use Rattle.term_pool.specs.Pool.{IsCanonical, LiesIn, text_in_slot}
-use Rattle.slot_index.specs.declared.key.Key.{Key}
-use Rattle.slot_index.specs.Keys.{key_cmp}
-use Rattle.triple_store.specs.declared.ranking.SlotText.{SlotText}
-use Rattle.triple_store.specs.Ranks.{AreTextsOf, IsRankOf, IsRanked, IsWithin, rank_key, rank_of, text_order, text_with, triple_with}
+use Rattle.slot_keys.specs.declared.key.Key.{Key}
+use Rattle.slot_keys.specs.Keys.{key_cmp}
+use Rattle.slot_keys.specs.declared.ranking.SlotText.{SlotText}
+use Rattle.slot_keys.specs.Ranks.{IsRankOf, IsRanked, rank_key, rank_of}
+use Rattle.triple_store.specs.Ranks.{AreTextsOf, IsWithin, text_order, text_with, triple_with}
 use Rattle.triple_store.specs.Slots.{term_in, triple_at, triple_of}
 use Rattle.triple_store.proofs.Matched.{canonical_at}
 use Rattle.triple_store.proofs.Storing.{canonical_back}

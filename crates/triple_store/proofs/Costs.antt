@@ -3,9 +3,9 @@ use Rattle.std.proofs.Common.{◌≡◌, ℕ, zero, suc, ◌+◌, ◌-◌, ◌*�
 use Rattle.std.proofs.Math.Nat.{mul-le-mul_left}
 use Rattle.std.specs.Cmp.{IsTotalOrder}
 use Rattle.std.specs.FinMap as map
-use Rattle.block_index.specs.Steps.{WithinSteps}
-use Rattle.slot_index.specs.declared.key.Key.{Key}
-use Rattle.slot_index.specs.Keys.{key_cmp-total}
+use Rattle.comparison_steps.specs.Steps.{WithinSteps}
+use Rattle.slot_keys.specs.declared.key.Key.{Key}
+use Rattle.slot_keys.specs.Keys.{key_cmp-total}
 use Rattle.slot_index.specs.Counts.{KeyCounts, count_of, lowered, raised, with_count}
 use Rattle.text_region.specs.Region.{Texts}
 use Rattle.triple_store.specs.declared.catalog.Catalog.{Catalog}

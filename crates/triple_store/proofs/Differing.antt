@@ -19,8 +19,9 @@ use Rattle.rdf_term.specs.Text.{triple_text}
 use Rattle.rdf_term.proofs.Texts.{triple_cmp-IsAntisymmetric}
 use Rattle.text_region.specs.Region.{Texts}
 use Rattle.term_pool.specs.Pool.{one_if}
-use Rattle.slot_index.specs.declared.key.Key.{Key}
-use Rattle.slot_index.specs.Keys.{key_cmp, key_cmp-total, key_cmp-IsAntisymmetric}
+use Rattle.slot_keys.specs.declared.key.Key.{Key}
+use Rattle.slot_keys.specs.Keys.{key_cmp, key_cmp-total, key_cmp-IsAntisymmetric}
+use Rattle.slot_keys.proofs.Keyed.{has_key, keys_rising}
 use Rattle.slot_index.specs.Counts as keyed
 use Rattle.triple_store.specs.declared.catalog.Catalog.{Catalog}
 use Rattle.triple_store.specs.Counts.{Counts, HaveOwners, count_of}
@@ -35,7 +36,6 @@ use Rattle.triple_store.specs.declared.telling.Change.{Change}
 use Rattle.triple_store.specs.declared.telling.Telling.{Telling}
 use Rattle.triple_store.specs.declared.telling.Telling.TheVariants.{Nothing, Change as TheChange}
 use Rattle.triple_store.proofs.Exchanged.{gone_then, had_triples, had_there, keys_triples, keys_there, triples_at-difference, same_test}
-use Rattle.triple_store.proofs.Keyed.{has_key, keys_rising}
 use Rattle.triple_store.proofs.Live.{count_image, key_same}
 use Rattle.triple_store.proofs.Ordered.{distinct_sorted, sorted_triples}
 use Rattle.triple_store.proofs.Taking.{none_taken}

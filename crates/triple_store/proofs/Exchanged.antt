@@ -9,8 +9,9 @@ use Rattle.rdf_term.specs.declared.triple.Triple.{Triple}
 use Rattle.rdf_term.specs.Order.{triple_cmp}
 use Rattle.text_region.specs.Region.{Texts}
 use Rattle.term_pool.specs.Pool.{one_if}
-use Rattle.slot_index.specs.declared.key.Key.{Key}
-use Rattle.slot_index.specs.Keys.{key_cmp, key_cmp-total}
+use Rattle.slot_keys.specs.declared.key.Key.{Key}
+use Rattle.slot_keys.specs.Keys.{key_cmp, key_cmp-total}
+use Rattle.slot_keys.proofs.Lists.{never}
 use Rattle.triple_store.specs.declared.catalog.Catalog.{Catalog}
 use Rattle.triple_store.specs.Counts.{Exchanges, count_of}
 use Rattle.triple_store.specs.Slots.{triple_at}
@@ -20,7 +21,7 @@ use Rattle.triple_store.proofs.Owners.{same_counts}
 use Rattle.triple_store.proofs.Removing.{apart}
 use Rattle.triple_store.proofs.Live.{tells}
 use Rattle.triple_store.proofs.Standing.{counted_key, has-triples_at, triples_at-has, owned}
-use Rattle.triple_store.proofs.Taking.{had_key, never}
+use Rattle.triple_store.proofs.Taking.{had_key}
 
 -- tests that imply each other
 pub same_test : (a b : Bool) → (a ≡ true → b ≡ true) → (b ≡ true → a ≡ true) → a ≡ b

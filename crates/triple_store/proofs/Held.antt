@@ -14,12 +14,12 @@ use Rattle.text_region.specs.Region.{Texts}
 use Rattle.term_pool.specs.declared.slots.Entry.{Entry}
 use Rattle.term_pool.specs.declared.pool.Pool.{Pool}
 use Rattle.term_pool.specs.Pool.{IsCanonical, IsNowhere, Interned, LiesIn, Released, SameSlots, count_at, count_of, terms, text_in_slot, live_text}
-use Rattle.term_pool.proofs.Lying.{text_there, used, used_at}
-use Rattle.slot_index.specs.declared.key.Key.{Key}
+use Rattle.term_pool.proofs.Lying.{if_same, text_there, used, used_at}
+use Rattle.slot_keys.specs.declared.key.Key.{Key}
 use Rattle.triple_texts.specs.declared.triple_text.TripleText.{TripleText}
-use Rattle.triple_store.specs.Interning.{HasTermsOf, InternsTriple, KeepsTexts}
+use Rattle.triple_store.specs.Interning.{HasTermsOf, InternsTriple, KeepsTexts, ReleasesTriple}
 use Rattle.triple_store.specs.Room.{distinct, terms_of}
-use Rattle.triple_store.specs.Slots.{IsAllOf}
+use Rattle.triple_store.specs.Slots.{IsAllOf, uses}
 use Rattle.triple_store.proofs.Distinct.{one_more}
 
 -- a slot that isn't used has no text
@@ -66,6 +66,10 @@ undone p q m u r s n v slot text before after i same released =
     let counts : (x : ℕ) → count_at u x ≡ count_at p x = λ x. omega (arith, released.counts x, same.counts x, i.counts x) in
     same_slots p u r v before after (keeps_released p m u r n v slot before (keeps_same p q m r s n (keeps_interned p q r s slot text i) same) released (λ x. omega (arith, counts x))) counts
 
+-- a slot that was used once more is used, also where all is as it was then
+pub used_then : (p q m : Pool) (r s n : Texts) (slot : ℕ) (text : List ℕ) → LiesIn q s → Interned p r q s slot text → SameSlots q s m n → 0 < count_at m slot
+used_then p q m r s n slot text lies i same = omega (arith, used_at q s lies slot text i.there, same.counts slot)
+
 pub held : (p a b q : Pool) (r s t v : Texts) (key : Key) (of : TripleText) → Interned p r a s key.first of.subject.now → Interned a s b t key.second of.predicate.now → Interned b t q v key.third of.object.now → InternsTriple p r q v key of
 held p a b q r s t v key of i j k =
     let first = keeps_interned p a r s key.first of.subject.now i in
@@ -80,6 +84,19 @@ held p a b q r s t v key of i j k =
       kept = record { kept = λ x text e. third.kept x text (second.kept x text (first.kept x text e)) };
       counts = λ x. omega (arith, i.counts x, j.counts x, k.counts x);
     }
+
+-- each use of a triple's slots can be taken back, the third first
+pub second_used : (p a : Pool) (r s : Texts) (key : Key) → ((slot : ℕ) → uses slot key ≤ count_at p slot) → Released p r a s key.third → 0 < count_at a key.second
+second_used p a r s key enough third = omega (arith, enough key.second, third.counts key.second, if_same key.second key.second refl)
+
+pub first_used : (p a b : Pool) (r s t : Texts) (key : Key) → ((slot : ℕ) → uses slot key ≤ count_at p slot) → Released p r a s key.third → Released a s b t key.second → 0 < count_at b key.first
+first_used p a b r s t key enough third second = omega (arith, enough key.first, third.counts key.first, second.counts key.first, if_same key.first key.first refl)
+
+pub taken_back : (p a b q : Pool) (r s t v : Texts) (key : Key) → Released p r a s key.third → Released a s b t key.second → Released b t q v key.first → ReleasesTriple p r q v key
+taken_back p a b q r s t v key third second first = record {
+  counts = λ x. omega (arith, third.counts x, second.counts x, first.counts x);
+  texts = λ x some. first.texts x some ∙ (second.texts x (omega (arith, some, first.counts x)) ∙ third.texts x (omega (arith, some, first.counts x, second.counts x)));
+}
 
 -- a list that has a pool's terms has them after one that it has comes
 pub terms_interned : (p q : Pool) (r s : Texts) (slot : ℕ) (text : List ℕ) (ts : List Term) → Interned p r q s slot text → HasTermsOf p r ts → has term_cmp (undo text) ts ≡ true → HasTermsOf q s ts

@@ -7,7 +7,7 @@ use Rattle.rdf_term.specs.Text.{term_text}
 use Rattle.text_region.specs.Region.{Texts}
 use Rattle.term_pool.specs.declared.pool.Pool.{Pool}
 use Rattle.term_pool.specs.Pool.{Interned, text_in_slot}
-use Rattle.slot_index.specs.declared.key.Key.{Key}
+use Rattle.slot_keys.specs.declared.key.Key.{Key}
 use Rattle.triple_texts.specs.declared.triple_text.TripleText.{TripleText}
 use Rattle.triple_texts.specs.Texts.{IsTextOf, RepeatsSubject}
 use Rattle.triple_store.specs.Interning.{IsOfSubject, IsOfTripleBefore}

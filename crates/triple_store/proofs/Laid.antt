@@ -16,7 +16,7 @@ use Rattle.term_pool.specs.Pool.{IsCanonical, owns, text_in_slot, live_text}
 use Rattle.term_pool.proofs.Beside.{beside_is, live_beside}
 use Rattle.term_pool.proofs.OthersTexts.{Owner, of_owned, owned as mine_there, owner}
 use Rattle.term_pool.proofs.Lying.{stands, text_there}
-use Rattle.slot_index.specs.declared.key.Key.{Key}
+use Rattle.slot_keys.specs.declared.key.Key.{Key}
 use Rattle.triple_store.specs.Counts.{HaveOwners}
 use Rattle.triple_store.specs.Interning.{HasTermsOf}
 use Rattle.triple_store.specs.Room.{room_for, terms_of}

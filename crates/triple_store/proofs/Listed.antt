@@ -13,15 +13,15 @@ use Rattle.triple_texts.specs.Texts.{IsTextOf}
 use Rattle.text_region.specs.declared.piece.Piece.{Piece}
 use Rattle.text_region.specs.Region.{Texts}
 use Rattle.rdf_term.specs.declared.term.Term.{Term}
-use Rattle.slot_index.specs.declared.key.Key.{Key}
-use Rattle.slot_index.specs.Keys.{key_cmp}
+use Rattle.slot_keys.specs.declared.key.Key.{Key}
+use Rattle.slot_keys.specs.Keys.{key_cmp}
+use Rattle.slot_keys.proofs.Lists.{has_at}
 use Rattle.triple_store.specs.declared.catalog.Catalog.{Catalog}
 use Rattle.triple_store.specs.Counts.{count_of, raised}
 use Rattle.triple_store.specs.Moves.{TakesIn}
 use Rattle.triple_store.specs.Room.{distinct, room_for, terms_of}
 use Rattle.triple_store.specs.Slots.{HasCanonicalTexts, HasTermsIn, HasTexts, HasTriple, IsAllOf, triple_of}
 use Rattle.triple_store.specs.Stored.{HasKey, IsStored, beside, counts_in, is_key, limit_of}
-use Rattle.triple_store.proofs.Removing.{has_at}
 use Rattle.triple_store.proofs.Rooming.{no_room}
 use Rattle.triple_store.proofs.Standing.{texts_triple, triple_of_texts, triple_texts}
 use Rattle.triple_store.proofs.Taking.{as_many, held_taken, new_taken}

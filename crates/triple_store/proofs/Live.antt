@@ -14,16 +14,16 @@ use Rattle.text_region.specs.Region.{Texts}
 use Rattle.term_pool.specs.declared.pool.Pool.{Pool}
 use Rattle.term_pool.specs.Pool.{LiesIn, count_at, text_in_slot, live_text}
 use Rattle.term_pool.proofs.Lying.{if_same, used}
-use Rattle.slot_index.specs.declared.key.Key.{Key}
-use Rattle.slot_index.specs.Keys.{key_cmp, key_cmp-total, key_cmp-IsAntisymmetric, same_key}
+use Rattle.slot_keys.specs.declared.key.Key.{Key}
+use Rattle.slot_keys.specs.Keys.{key_cmp, key_cmp-total, key_cmp-IsAntisymmetric, same_key}
+use Rattle.slot_keys.proofs.Imaged.{among, find-pushed, find-pushed_none, pushed_same}
+use Rattle.slot_keys.proofs.Keyed.{has_key, sum-has}
 use Rattle.slot_index.specs.Counts.{KeyCounts}
 use Rattle.slot_index.specs.Counts as keyed
 use Rattle.triple_store.specs.Counts.{count_of, with_count}
 use Rattle.triple_store.specs.Slots.{HasTriple, term_in, triple_at, uses}
 use Rattle.triple_store.specs.Slots as slots
 use Rattle.triple_store.specs.Stored.{image}
-use Rattle.triple_store.proofs.Imaged.{among, find-pushed, find-pushed_none, pushed_same}
-use Rattle.triple_store.proofs.Keyed.{has_key, sum-has}
 use Rattle.slot_index.proofs.Raising.{kept}
 use Rattle.triple_store.proofs.Owners.{get-with_count, same_triple}
 

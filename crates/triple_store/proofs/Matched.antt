@@ -21,15 +21,15 @@ use Rattle.text_region.specs.Region.{Texts}
 use Rattle.term_pool.specs.declared.pool.Pool.{Pool}
 use Rattle.term_pool.specs.Pool.{IsCanonical, IsNowhere, LiesIn, count_at, text_in_slot}
 use Rattle.term_pool.proofs.Lying.{stands}
-use Rattle.slot_index.specs.declared.key.Key.{Key}
+use Rattle.slot_keys.specs.declared.key.Key.{Key}
 use Rattle.slot_index.specs.declared.pattern.SlotPattern.{SlotPattern}
-use Rattle.slot_index.specs.Keys.{key_cmp, key_cmp-total, key_cmp-IsAntisymmetric, same_key}
+use Rattle.slot_keys.specs.Keys.{key_cmp, key_cmp-total, key_cmp-IsAntisymmetric, same_key}
+use Rattle.slot_keys.proofs.Keyed.{has_key, keys_rising}
 use Rattle.slot_index.specs.Patterns.{slots_agree}
 use Rattle.slot_index.specs.Counts.{KeyCounts}
 use Rattle.slot_index.proofs.Passing.{count-map, count_by-cons, has_counted, one_if}
 use Rattle.triple_store.specs.Slots.{term_in, triple_at}
 use Rattle.triple_store.specs.Stored.{image}
-use Rattle.triple_store.proofs.Keyed.{has_key, keys_rising}
 use Rattle.triple_store.proofs.Live.{live_slot}
 use Rattle.triple_store.proofs.Owners.{same_triple}
 use Rattle.triple_store.proofs.Unchanged.{keys_mean, mapped_has}

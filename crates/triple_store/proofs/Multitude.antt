@@ -11,8 +11,10 @@ use Rattle.rdf_term.specs.Order.{triple_cmp, triple_cmp-total}
 use Rattle.rdf_term.proofs.Texts.{triple_cmp-IsAntisymmetric}
 use Rattle.text_region.specs.Region.{Texts}
 use Rattle.term_pool.specs.Pool.{one_if}
-use Rattle.slot_index.specs.declared.key.Key.{Key}
-use Rattle.slot_index.specs.Keys.{key_cmp, key_cmp-total}
+use Rattle.slot_keys.specs.declared.key.Key.{Key}
+use Rattle.slot_keys.specs.KeyCounts.{counted_keys}
+use Rattle.slot_keys.specs.Keys.{key_cmp, key_cmp-total}
+use Rattle.slot_keys.proofs.Lists.{never}
 use Rattle.triple_store.specs.declared.catalog.Catalog.{Catalog}
 use Rattle.triple_store.specs.declared.telling.Telling.{Telling}
 use Rattle.triple_store.specs.Costs.{Costs}
@@ -20,13 +22,12 @@ use Rattle.triple_store.specs.Moves.{triples_at}
 use Rattle.triple_store.specs.Slots.{triple_at}
 use Rattle.triple_store.specs.Stored.{HasKey, IsStored, is_key}
 use Rattle.triple_store.specs.Telling.{if_told}
-use Rattle.triple_store.specs.Times.{AddTimes, AreTimesOf, Becomes, counted_keys, times}
+use Rattle.triple_store.specs.Times.{AddTimes, AreTimesOf, Becomes, times}
 use Rattle.triple_store.proofs.Afterwards.{stays_among}
 use Rattle.triple_store.proofs.Becoming.{counted-has, left_of, none_times, some_times, times-cons, times_some}
 use Rattle.triple_store.proofs.Costs.{at_most, told_fewer}
 use Rattle.triple_store.proofs.Live.{key_same}
 use Rattle.triple_store.proofs.Standing.{stored_key, triples_at-has}
-use Rattle.triple_store.proofs.Taking.{never}
 
 -- the list without the triple where it comes first
 abbrev without : Triple → List Triple → List Triple

@@ -26,9 +26,10 @@ use Rattle.rdf_term.proofs.Texts.{triple_cmp-IsAntisymmetric}
 use Rattle.text_region.specs.Region.{Texts}
 use Rattle.term_pool.specs.declared.pool.Pool.{Pool}
 use Rattle.term_pool.specs.Pool.{LiesIn}
-use Rattle.slot_index.specs.declared.key.Key.{Key}
+use Rattle.slot_keys.specs.declared.key.Key.{Key}
 use Rattle.slot_index.specs.declared.pattern.SlotPattern.{SlotPattern}
-use Rattle.slot_index.specs.Keys.{key_cmp, key_cmp-total, key_cmp-IsAntisymmetric}
+use Rattle.slot_keys.specs.Keys.{key_cmp, key_cmp-total, key_cmp-IsAntisymmetric}
+use Rattle.slot_keys.proofs.Keyed.{has_key, keys_rising}
 use Rattle.slot_index.specs.Patterns.{slots_agree}
 use Rattle.slot_index.proofs.Passing.{count-filter, count-map, count_by-cons, has_counted, one_if}
 use Rattle.triple_texts.specs.declared.triple_text.TripleText.{TripleText}
@@ -37,7 +38,6 @@ use Rattle.triple_store.specs.Rows.{line_of, text_cmp}
 use Rattle.triple_store.specs.Slots.{HasCanonicalTexts, HasTexts, HasTriple, term_in, triple_at, triple_of}
 use Rattle.triple_store.specs.Stored.{IsStored, image}
 use Rattle.triple_store.proofs.Distinct.{AreDistinct, length-distinct}
-use Rattle.triple_store.proofs.Keyed.{has_key, keys_rising}
 use Rattle.triple_store.proofs.Live.{key_same}
 use Rattle.triple_store.proofs.Matched.{canonical_at, count_fewer, matched}
 use Rattle.triple_store.proofs.Owners.{same_triple}

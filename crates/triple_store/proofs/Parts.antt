@@ -11,8 +11,9 @@ use Rattle.rdf_term.specs.Order.{term_cmp, term_cmp-total, triple_cmp}
 use Rattle.rdf_term.proofs.Texts.{term_cmp-IsAntisymmetric}
 use Rattle.text_region.specs.Region.{Texts}
 use Rattle.term_pool.specs.Pool.{one_if}
-use Rattle.slot_index.specs.declared.key.Key.{Key}
-use Rattle.slot_index.specs.Keys.{key_cmp, key_cmp-total}
+use Rattle.slot_keys.specs.declared.key.Key.{Key}
+use Rattle.slot_keys.specs.Keys.{key_cmp, key_cmp-total}
+use Rattle.slot_keys.proofs.Lists.{one_of, or_left}
 use Rattle.triple_store.specs.declared.catalog.Catalog.{Catalog}
 use Rattle.triple_store.specs.Counts.{count_of}
 use Rattle.triple_store.specs.Room.{room_for, terms_of}
@@ -25,7 +26,6 @@ use Rattle.triple_store.proofs.Live.{tells}
 use Rattle.triple_store.proofs.Rooming.{terms_among}
 use Rattle.triple_store.proofs.Standing.{counted_key, has-triples_at, triples_at-has, stored_if, stored_key}
 use Rattle.triple_store.proofs.Stocked.{term_of}
-use Rattle.triple_store.proofs.Taking.{one_of, or_left}
 
 -- nothing
 pub stand_nothing : (st : Catalog) (r : Texts) → StandFor st r [] []

@@ -11,7 +11,8 @@ use Rattle.rdf_term.proofs.Texts.{triple_cmp-IsAntisymmetric}
 use Rattle.text_region.specs.declared.piece.Piece.{Piece}
 use Rattle.text_region.specs.Region.{Texts}
 use Rattle.term_pool.specs.Pool.{one_if}
-use Rattle.slot_index.specs.declared.key.Key.{Key}
+use Rattle.slot_keys.specs.declared.key.Key.{Key}
+use Rattle.slot_keys.proofs.Lists.{fresh, has_at}
 use Rattle.triple_store.specs.declared.catalog.Catalog.{Catalog}
 use Rattle.triple_store.specs.Counts.{Exchanges, count_of, lowered}
 use Rattle.triple_store.specs.Moves.{Loses}
@@ -19,7 +20,7 @@ use Rattle.triple_store.specs.Slots.{HasTriple, triple_at}
 use Rattle.triple_store.specs.Stored.{AreKeysOf, HasKey, IsStored, KeepsKeys, beside, counts_in, is_key, limit_of}
 use Rattle.triple_store.proofs.Live.{key_same, tells}
 use Rattle.triple_store.proofs.Owners.{count_of-lowered, same_triple}
-use Rattle.triple_store.proofs.Removing.{fresh, has_at, one_less}
+use Rattle.triple_store.proofs.Removing.{one_less}
 use Rattle.triple_store.proofs.Standing.{key_stored, stored_if}
 
 -- a list of each element by itself is the list

@@ -1,22 +1,18 @@
 -- Keys of a rising list whose triples lose an owner, one by one.
-use Rattle.std.proofs.Common.{◌≡◌, ℕ, zero, suc, ◌+◌, ◌-◌, ◌<◌, Bool, true, false, not, cond, ◌||◌, ◌&&◌, List, [], ◌∷◌, ◌++◌, length, take, get_or, is_eq, Ordering, Less, refl, sym, ◌∙◌, ap, subst, arith, append-nil, true≢false}
+use Rattle.std.proofs.Common.{◌≡◌, ℕ, ◌+◌, ◌-◌, ◌<◌, Bool, true, false, not, ◌||◌, ◌&&◌, List, [], ◌∷◌, ◌++◌, length, take, get_or, refl, sym, ◌∙◌, ap, subst, arith}
 use Rattle.std.specs.Prelude.{map as mapped}
-use Rattle.std.specs.Cmp.{IsTotalOrder}
-use Rattle.std.specs.Ordering.{eq_by_cmp}
-use Rattle.std.proofs.lemmas.List.{take_more}
-use Rattle.std.proofs.lemmas.List.Elements.{filter-append}
-use Rattle.rising.specs.Rising.{has, Above, IsRising, difference}
-use Rattle.rising.proofs.Bools.{and_none, and_right, clash, equal, or_false, or_true, or_none, or_assoc}
+use Rattle.rising.specs.Rising.{has, IsRising, difference}
+use Rattle.rising.proofs.Bools.{and_none, and_right, clash, equal, or_none, or_assoc}
 use Rattle.rising.proofs.Filtering.{has-difference}
-use Rattle.rising.proofs.Rising.{has_itself, turned}
 use Rattle.rdf_term.specs.declared.triple.Triple.{Triple}
 use Rattle.rdf_term.specs.Order.{triple_cmp}
 use Rattle.rdf_term.proofs.Texts.{triple_cmp-IsAntisymmetric}
 use Rattle.text_region.specs.declared.piece.Piece.{Piece}
 use Rattle.text_region.specs.Region.{Texts}
 use Rattle.term_pool.specs.Pool.{one_if}
-use Rattle.slot_index.specs.declared.key.Key.{Key}
-use Rattle.slot_index.specs.Keys.{key_cmp, key_cmp-total}
+use Rattle.slot_keys.specs.declared.key.Key.{Key}
+use Rattle.slot_keys.specs.Keys.{key_cmp, key_cmp-total}
+use Rattle.slot_keys.proofs.Lists.{difference_more, difference_same, fresh, has_at, in_take}
 use Rattle.triple_store.specs.declared.catalog.Catalog.{Catalog}
 use Rattle.triple_store.specs.Counts.{count_of, lowered}
 use Rattle.triple_store.specs.Slots.{triple_at}
@@ -25,45 +21,6 @@ use Rattle.triple_store.specs.Moves.{Removes, triples_at}
 use Rattle.triple_store.proofs.Owners.{same_triple, count_of-lowered}
 use Rattle.triple_store.proofs.Live.{key_same, tells}
 use Rattle.triple_store.proofs.Standing.{counted_key, triples_at-has, stored_key}
-
-module _ {K : Type 0} {R : K → K → Ordering} (o : IsTotalOrder R) where
-  above_at : (k : K) (xs : List K) (i : ℕ) (d : K) → i < length xs → Above R k xs → R k (get_or xs i d) ≡ Less
-  above_at k [] i d l h = absurd (omega arith)
-  above_at k (x ∷ xs) zero d l h = h.0
-  above_at k (x ∷ xs) (suc i) d l h = above_at k xs i d (omega arith) h.1
-
-  -- an element of a rising list isn't among those before it
-  pub fresh : (xs : List K) (i : ℕ) (d : K) → i < length xs → IsRising R xs → has R (get_or xs i d) (take i xs) ≡ false
-  fresh [] i d l h = absurd (omega arith)
-  fresh (x ∷ xs) zero d l h = refl
-  fresh (x ∷ xs) (suc i) d l h = or_false _ _ (ap is_eq (turned o x _ Less (above_at x xs i d (omega arith) h.0))) (fresh xs i d (omega arith) h.1)
-
-  -- an element of a list is in it
-  pub has_at : (xs : List K) (i : ℕ) (d : K) → i < length xs → has R (get_or xs i d) xs ≡ true
-  has_at [] i d l = absurd (omega arith)
-  has_at (x ∷ xs) zero d l = has_itself o x xs
-  has_at (x ∷ xs) (suc i) d l = or_true _ _ (has_at xs i d (omega arith))
-
-  -- the next element of a list, less those of another
-  pub difference_more : (xs ys : List K) (i : ℕ) (d : K) → i < length xs → has R (get_or xs i d) ys ≡ false → difference R (take (i + 1) xs) ys ≡ difference R (take i xs) ys ++ get_or xs i d ∷ []
-  difference_more xs ys i d l out =
-      ap (λ zs. difference R zs ys) (take_more xs i d l) ∙ filter-append (λ x. not (has R x ys)) (take i xs) (get_or xs i d ∷ [])
-      ∙ ap (λ b. difference R (take i xs) ys ++ cond (not b) (get_or xs i d ∷ []) []) out
-
-  pub difference_same : (xs ys : List K) (i : ℕ) (d : K) → i < length xs → has R (get_or xs i d) ys ≡ true → difference R (take (i + 1) xs) ys ≡ difference R (take i xs) ys
-  difference_same xs ys i d l out =
-      ap (λ zs. difference R zs ys) (take_more xs i d l) ∙ filter-append (λ x. not (has R x ys)) (take i xs) (get_or xs i d ∷ [])
-      ∙ ap (λ b. difference R (take i xs) ys ++ cond (not b) (get_or xs i d ∷ []) []) out ∙ append-nil (difference R (take i xs) ys)
-
-  -- what is among the first elements is in the list
-  pub in_take : (k : K) (i : ℕ) (xs : List K) → has R k (take i xs) ≡ true → has R k xs ≡ true
-  in_take k zero xs h = absurd (true≢false (sym h))
-  in_take k (suc i) [] h = h
-  in_take k (suc i) (x ∷ xs) h =
-      elim (eq_by_cmp R k x) as (λ b. (b || has R k (take i xs)) ≡ true → (b || has R k xs) ≡ true) [
-        | true ↦ λ _. refl
-        | false ↦ in_take k i xs
-      ] h
 
 -- nothing is gone yet
 pub none_removed : (st : Catalog) (r : Texts) → IsStored st r → Removes st r st r []

@@ -11,7 +11,8 @@ use Rattle.rdf_term.specs.Order.{term_cmp, triple_cmp, triple_cmp-total}
 use Rattle.rdf_term.proofs.Texts.{triple_cmp-IsAntisymmetric}
 use Rattle.text_region.specs.Region.{Texts}
 use Rattle.term_pool.specs.Pool.{one_if}
-use Rattle.slot_index.specs.declared.key.Key.{Key}
+use Rattle.slot_keys.specs.declared.key.Key.{Key}
+use Rattle.slot_keys.proofs.Lists.{in_take, one_of, or_left}
 use Rattle.triple_store.specs.declared.catalog.Catalog.{Catalog}
 use Rattle.term_pool.specs.declared.fault.PoolFault.{PoolFault}
 use Rattle.term_pool.specs.declared.fault.PoolFault.TheVariants.{Full}
@@ -21,9 +22,7 @@ use Rattle.triple_store.specs.Slots.{HasTermsIn, IsAllOf}
 use Rattle.triple_store.specs.Stored.{counts_in, limit_of}
 use Rattle.triple_store.specs.Moves.{TakesIn, triples_at}
 use Rattle.triple_store.proofs.Owners.{same_triple}
-use Rattle.triple_store.proofs.Removing.{in_take}
 use Rattle.triple_store.proofs.Standing.{owned, stored_if}
-use Rattle.triple_store.proofs.Taking.{one_of, or_left}
 
 -- the terms of a triple of a list are among those of the list
 pub terms_among : (ts : List Triple) (t : Triple) → has triple_cmp t ts ≡ true → IsAllOf (terms_of t) (flat_map terms_of ts)

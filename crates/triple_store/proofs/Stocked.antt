@@ -21,8 +21,9 @@ use Rattle.term_pool.specs.declared.slots.Entry.{Entry}
 use Rattle.term_pool.specs.declared.pool.Pool.{Pool}
 use Rattle.term_pool.specs.Pool.{terms, text_in_slot, live_text}
 use Rattle.term_pool.proofs.Lying.{if_other, used_at}
-use Rattle.slot_index.specs.declared.key.Key.{Key}
-use Rattle.slot_index.specs.Keys.{key_cmp, key_cmp-total, same_key}
+use Rattle.slot_keys.specs.declared.key.Key.{Key}
+use Rattle.slot_keys.specs.Keys.{key_cmp, key_cmp-total, same_key}
+use Rattle.slot_keys.proofs.Lists.{one_of, or_left}
 use Rattle.triple_store.specs.declared.catalog.Catalog.{Catalog}
 use Rattle.triple_store.specs.Interning.{HasTermsOf}
 use Rattle.triple_store.specs.Moves.{TakesIn}
@@ -32,7 +33,6 @@ use Rattle.triple_store.specs.Stored.{HasKey, IsStored, counts_in, limit_of}
 use Rattle.triple_store.proofs.Distinct.{as_many, fewer}
 use Rattle.triple_store.proofs.Rooming.{positive_sum, terms_among}
 use Rattle.triple_store.proofs.Standing.{contains-image, has-triples_at, key_stored, stored_key}
-use Rattle.triple_store.proofs.Taking.{one_of, or_left}
 
 module _ {K : Type 0} (R : K → K → Ordering) where
   length-insert : (k : K) (xs : List K) → length (insert_key R xs k) ≤ length xs + 1

@@ -17,8 +17,9 @@ use Rattle.text_region.specs.Region.{Texts}
 use Rattle.term_pool.specs.declared.pool.Pool.{Pool}
 use Rattle.term_pool.specs.Pool.{IsCanonical, LiesIn, count_at, one_if, text_in_slot}
 use Rattle.term_pool.proofs.Lying.{if_other, used_at}
-use Rattle.slot_index.specs.declared.key.Key.{Key}
-use Rattle.slot_index.specs.Keys.{key_cmp, key_cmp-total, key_cmp-IsAntisymmetric, same_key}
+use Rattle.slot_keys.specs.declared.key.Key.{Key}
+use Rattle.slot_keys.specs.Keys.{key_cmp, key_cmp-total, key_cmp-IsAntisymmetric, same_key}
+use Rattle.slot_keys.proofs.Keyed.{gone, keys-insert, keys-insert_again, keys-remove, sum-insert_key, has_key}
 use Rattle.slot_index.specs.Counts.{KeyCounts}
 use Rattle.slot_index.specs.Counts as keyed
 use Rattle.slot_index.proofs.Owners as keyed_owners
@@ -30,7 +31,6 @@ use Rattle.triple_store.specs.Slots.{HasCanonicalTexts, HasTermsIn, HasTexts, Ha
 use Rattle.triple_store.specs.Slots as slots
 use Rattle.triple_store.specs.Stored.{HasKey, IsStored, KeepsKeys, counts_in, image}
 use Rattle.triple_store.proofs.Held.{three}
-use Rattle.triple_store.proofs.Keyed.{gone, keys-insert, keys-insert_again, keys-remove, sum-insert_key, has_key}
 use Rattle.triple_store.proofs.Live.{AreLive, count_image, get_image, image_changed, image_kept, live_counted, live-with_count, tells, uses_first, uses_second, uses_third, uses_there}
 
 -- ---- counts of keys
@@ -177,6 +177,13 @@ module _ (st new : Catalog) (r s : Texts) (h : IsStored st r) where
 
   pub keys_unmoved : KeepsTexts st.pool r new.pool s → new.index ≡ st.index → (l : Key) (t : Triple) → HasKey st r l t → HasKey new s l t
   keys_unmoved keeps e l t k = record { stored = ap (λ c. map.contains_key c l) e ∙ k.stored; has = keeps_triple st.pool new.pool r s l t keeps k.has }
+
+  pub stored_same : new.index ≡ st.index → LiesIn new.pool s → ((x : ℕ) → count_at new.pool x ≡ count_at st.pool x) → IsStored new s
+  stored_same e lies counts = record {
+    lies = lies;
+    counted = λ slot. counts slot ∙ h.counted slot ∙ ap (λ c. slots.used (map.keys c) slot) (sym e);
+    owned = subst keyed.HaveOwners (sym e) h.owned;
+  }
 
   module _ (k : Key) (t : Triple) (e : new.index ≡ keyed.raised st.index k) where
     pub counts_after : LiesIn new.pool s → KeepsTexts st.pool r new.pool s → HasTriple new.pool s k t → counts_in new s ≡ raised (counts_in st r) t

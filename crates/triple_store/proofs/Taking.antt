@@ -13,8 +13,9 @@ use Rattle.rdf_term.proofs.Texts.{triple_cmp-IsAntisymmetric}
 use Rattle.text_region.specs.declared.piece.Piece.{Piece}
 use Rattle.text_region.specs.Region.{Texts}
 use Rattle.term_pool.specs.Pool.{one_if}
-use Rattle.slot_index.specs.declared.key.Key.{Key}
-use Rattle.slot_index.specs.Keys.{key_cmp, key_cmp-total, key_cmp-IsAntisymmetric, same_key}
+use Rattle.slot_keys.specs.declared.key.Key.{Key}
+use Rattle.slot_keys.specs.Keys.{key_cmp, key_cmp-total, key_cmp-IsAntisymmetric, same_key}
+use Rattle.slot_keys.proofs.Lists.{has-push, never, one_of, or_left}
 use Rattle.triple_store.specs.declared.catalog.Catalog.{Catalog}
 use Rattle.triple_store.specs.Counts.{count_of, raised}
 use Rattle.triple_store.specs.Slots.{HasTriple, triple_at}
@@ -24,25 +25,8 @@ use Rattle.triple_store.proofs.Owners.{same_triple, count_of-raised}
 use Rattle.triple_store.proofs.Live.{tells}
 use Rattle.triple_store.proofs.Standing.{has-triples_at, triples_at-has, stored_key}
 
--- one more element at the end of a list
-pub has-push : {K : Type 0} (R : K → K → Ordering) (q : K) (xs : List K) (x : K) → has R q (xs ++ x ∷ []) ≡ (has R q xs || eq_by_cmp R q x)
-has-push R q xs x = has-append R q xs (x ∷ []) ∙ ap (λ b. has R q xs || b) (or_none (eq_by_cmp R q x))
-
-pub or_left : (a b : Bool) → a ≡ true → (a || b) ≡ true
-or_left true b e = refl
-or_left false b e = absurd (true≢false (sym e))
-
--- one of two tests passes
-pub one_of : (a b : Bool) → (a || b) ≡ true → (a ≡ true) ⊎ (b ≡ true)
-one_of true b e = inl refl
-one_of false b e = inr e
-
 itself : {K : Type 0} {R : K → K → Ordering} → IsTotalOrder R → (x : K) → eq_by_cmp R x x ≡ true
 itself o x = ap is_eq (tied_itself o x)
-
-pub never : (b : Bool) → (b ≡ true → ⊥) → b ≡ false
-never true f = absurd (f refl)
-never false f = refl
 
 -- the count of a triple that is done again, or that the owner had, stays
 stays : (old now : ℕ) (done gone same more : Bool) → more ≡ (done || same) → (same ≡ true → (done ≡ true) ⊎ (gone ≡ true)) → now ≡ old + one_if (done && not gone) → now ≡ old + one_if (more && not gone)

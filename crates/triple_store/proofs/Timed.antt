@@ -1,13 +1,12 @@
 -- How many times triples come, one triple after another.
-use Rattle.std.proofs.Common.{◌≡◌, ◌≢◌, ℕ, zero, suc, ◌+◌, ◌<◌, Bool, true, false, cond, List, [], ◌∷◌, ◌++◌, length, take, get_or, Ordering, Less, is_eq, ⊎_elim, refl, sym, ◌∙◌, ap, subst, arith}
+use Rattle.std.proofs.Common.{◌≡◌, ◌≢◌, ℕ, ◌+◌, ◌<◌, Bool, true, false, cond, List, [], ◌∷◌, ◌++◌, length, take, get_or, is_eq, ⊎_elim, refl, sym, ◌∙◌, ap, subst, arith}
 use Rattle.std.specs.Prelude.{IfSome, slice_get, set}
 use Rattle.std.specs.Ordering.{eq_by_cmp}
-use Rattle.std.specs.Cmp.{IsTotalOrder}
 use Rattle.std.proofs.lemmas.List.{get_or-set_other, get_or-set_same, length-set}
 use Rattle.std.proofs.lemmas.List.Sums.{sum_by_push}
-use Rattle.std.proofs.lemmas.Bool.{cases_eq, cases_lt}
+use Rattle.std.proofs.lemmas.Bool.{cases_eq}
 use Rattle.std.proofs.lemmas.Cmp.{tied_itself}
-use Rattle.rising.specs.Rising.{Above, IsRising, has}
+use Rattle.rising.specs.Rising.{IsRising, has}
 use Rattle.rising.proofs.Bools.{equal}
 use Rattle.rdf_term.specs.declared.triple.Triple.{Triple}
 use Rattle.rdf_term.specs.Order.{triple_cmp, triple_cmp-total}
@@ -16,42 +15,16 @@ use Rattle.triple_texts.specs.declared.triple_text.TripleText.{TripleText}
 use Rattle.triple_texts.specs.Texts.{IsTextOf}
 use Rattle.text_region.specs.Region.{Texts}
 use Rattle.term_pool.specs.Pool.{one_if}
-use Rattle.slot_index.specs.declared.key.Key.{Key}
-use Rattle.slot_index.specs.Keys.{key_cmp, key_cmp-total}
+use Rattle.slot_keys.specs.declared.key.Key.{Key}
+use Rattle.slot_keys.specs.Keys.{key_cmp, key_cmp-total}
+use Rattle.slot_keys.proofs.Lists.{has_at, other_at}
 use Rattle.triple_store.specs.declared.catalog.Catalog.{Catalog}
 use Rattle.triple_store.specs.Slots.{HasTexts, HasTriple, triple_of}
 use Rattle.triple_store.specs.Stored.{IsStored, is_key}
 use Rattle.triple_store.specs.Times.{AddTimes, times, triple_of_key}
 use Rattle.triple_store.proofs.Listed.{row}
 use Rattle.triple_store.proofs.Live.{key_same, tells}
-use Rattle.triple_store.proofs.Removing.{has_at}
 use Rattle.triple_store.proofs.Standing.{stored_key, texts_triple}
-
-module _ {K : Type 0} {R : K → K → Ordering} (o : IsTotalOrder R) where
-  above_at : (k : K) (xs : List K) (i : ℕ) (d : K) → Above R k xs → i < length xs → R k (get_or xs i d) ≡ Less
-  above_at k [] i d h low = absurd (omega (arith, low))
-  above_at k (x ∷ xs) zero d h low = h.0
-  above_at k (x ∷ xs) (suc i) d h low = above_at k xs i d h.1 (omega (arith, low))
-
-  -- an element of a rising list is below those after it
-  less_at : (xs : List K) (i j : ℕ) (d : K) → IsRising R xs → i < j → j < length xs → R (get_or xs i d) (get_or xs j d) ≡ Less
-  less_at [] i j d h before low = absurd (omega (arith, low))
-  less_at (x ∷ xs) i zero d h before low = absurd (omega (arith, before))
-  less_at (x ∷ xs) zero (suc j) d h before low = above_at x xs j d h.0 (omega (arith, low))
-  less_at (x ∷ xs) (suc i) (suc j) d h before low = less_at xs i j d h.1 (omega (arith, before)) (omega (arith, low))
-
-  -- and another one than each of the others
-  pub other_at : (xs : List K) (i j : ℕ) (d : K) → IsRising R xs → i < length xs → j < length xs → i ≢ j → get_or xs i d ≢ get_or xs j d
-  other_at xs i j d h low_i low_j differ same = ⊎_elim
-      (λ before. let less = less_at xs i j d h before low_j in clash less same)
-      (λ rest.
-      let behind : j < i = omega (arith, rest, differ) in
-      let less = less_at xs j i d h behind low_i in
-      clash less (sym same))
-      (cases_lt i j)
-    where
-      clash : {x y : K} → R x y ≡ Less → x ≡ y → ⊥
-      clash {x} {y} less same = let tied = tied_itself o x in let here : R x x ≡ Less = subst (λ (z : K). R x z ≡ Less) (sym same) less in absurd cc
 
 -- one triple more
 times-push : (t u : Triple) (ts : List Triple) → times t (ts ++ u ∷ []) ≡ times t ts + cond (eq_by_cmp triple_cmp t u) 1 0

@@ -23,8 +23,10 @@ use Rattle.term_pool.specs.declared.pool.Pool.{Pool}
 use Rattle.term_pool.specs.Pool.{LiesIn, count_at, beside as pool_beside, has_piece, terms}
 use Rattle.term_pool.proofs.Beside.{MovesBeside}
 use Rattle.term_pool.proofs.Lying.{used_at}
-use Rattle.slot_index.specs.declared.key.Key.{Key}
-use Rattle.slot_index.specs.Keys.{key_cmp, key_cmp-total, key_cmp-IsAntisymmetric}
+use Rattle.slot_keys.specs.declared.key.Key.{Key}
+use Rattle.slot_keys.specs.Keys.{key_cmp, key_cmp-total, key_cmp-IsAntisymmetric}
+use Rattle.slot_keys.proofs.Imaged.{keys-pushed, pushed}
+use Rattle.slot_keys.proofs.Keyed.{has_key, keys_rising}
 use Rattle.slot_index.specs.Counts.{KeyCounts}
 use Rattle.triple_store.specs.declared.catalog.Catalog.{Catalog}
 use Rattle.triple_store.specs.Interning.{KeepsTexts}
@@ -32,8 +34,6 @@ use Rattle.triple_store.specs.Slots.{HasTriple, triple_at}
 use Rattle.triple_store.specs.Slots as slots
 use Rattle.triple_store.specs.Stored.{Changes, HasKey, IsStored, beside, counts_in, image}
 use Rattle.triple_store.proofs.Distinct.{AreDistinct, as_many, length-distinct}
-use Rattle.triple_store.proofs.Imaged.{keys-pushed, pushed}
-use Rattle.triple_store.proofs.Keyed.{has_key, keys_rising}
 use Rattle.triple_store.proofs.Live.{key_same}
 use Rattle.slot_index.proofs.Mapped.{there}
 use Rattle.triple_store.proofs.Storing.{counts_kept, keeps_triple, live_stored}

@@ -7,7 +7,7 @@ use Rattle.rdf_term.specs.Undo.{undo}
 use Rattle.text_region.specs.Region.{Texts}
 use Rattle.term_pool.specs.declared.pool.Pool.{Pool}
 use Rattle.term_pool.specs.Pool.{count_at, text_in_slot}
-use Rattle.slot_index.specs.declared.key.Key.{Key}
+use Rattle.slot_keys.specs.declared.key.Key.{Key}
 use Rattle.rdf_term.specs.declared.triple.Triple.{Triple}
 use Rattle.rdf_term.specs.Text.{term_text}
 use Rattle.triple_texts.specs.declared.triple_text.TripleText.{TripleText}

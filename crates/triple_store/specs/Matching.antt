@@ -1,6 +1,6 @@
 -- Which triples of slots agree with a pattern of terms.
 use Rattle.std.specs.Prelude.{ℕ, Bool, false, Option, None, Some}
-use Rattle.slot_index.specs.declared.key.Key.{Key}
+use Rattle.slot_keys.specs.declared.key.Key.{Key}
 use Rattle.slot_index.specs.declared.pattern.SlotPattern.{SlotPattern}
 use Rattle.slot_index.specs.Patterns.{slots_agree, slot_agrees_at}
 

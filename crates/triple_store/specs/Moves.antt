@@ -7,8 +7,8 @@ use Rattle.rdf_term.specs.Order.{triple_cmp}
 use Rattle.text_region.specs.declared.piece.Piece.{Piece}
 use Rattle.text_region.specs.Region.{Texts}
 use Rattle.term_pool.specs.Pool.{one_if}
-use Rattle.slot_index.specs.declared.key.Key.{Key}
-use Rattle.slot_index.specs.Keys.{key_cmp}
+use Rattle.slot_keys.specs.declared.key.Key.{Key}
+use Rattle.slot_keys.specs.Keys.{key_cmp}
 use Rattle.triple_store.specs.declared.catalog.Catalog.{Catalog}
 use Rattle.triple_store.specs.Counts.{count_of}
 use Rattle.triple_store.specs.Slots.{triple_at}

@@ -3,7 +3,7 @@ use Rattle.std.specs.Prelude.{◌≡◌, ℕ, ◌<◌, ◌≤◌, List, length, 
 use Rattle.rdf_term.specs.declared.triple.Triple.{Triple}
 use Rattle.term_pool.specs.declared.fault.PoolFault.{PoolFault}
 use Rattle.term_pool.specs.declared.fault.PoolFault.TheVariants.{Full}
-use Rattle.slot_index.specs.declared.key.Key.{Key}
+use Rattle.slot_keys.specs.declared.key.Key.{Key}
 use Rattle.text_region.specs.Region.{Texts}
 use Rattle.triple_store.specs.declared.catalog.Catalog.{Catalog}
 use Rattle.triple_store.specs.declared.part_updates.TimedExchange.{TimedExchange}

@@ -1,6 +1,5 @@
 -- Triples whose terms are named by their ranks: the indices in a rising list of texts.
-use Rattle.std.specs.Prelude.{◌≡◌, ℕ, ◌<◌, List, [], length, Some, slice_index_or}
-use Rattle.std.specs.Prelude.{map as mapped}
+use Rattle.std.specs.Prelude.{◌≡◌, ℕ, ◌<◌, List, [], length, Some, slice_index_or, map as mapped}
 use Rattle.std.specs.List.{All}
 use Rattle.std.specs.declared.cmp.Ordering.{Ordering}
 use Rattle.std.specs.Ordering.{on}
@@ -10,9 +9,9 @@ use Rattle.rdf_term.specs.Undo.{undo}
 use Rattle.text_region.specs.Region.{Texts}
 use Rattle.term_pool.specs.declared.pool.Pool.{Pool}
 use Rattle.term_pool.specs.Pool.{IsCanonical, text_in_slot}
-use Rattle.slot_index.specs.declared.key.Key.{Key}
+use Rattle.slot_keys.specs.declared.key.Key.{Key}
+use Rattle.slot_keys.specs.declared.ranking.SlotText.{SlotText}
 use Rattle.triple_store.specs.declared.ranking.Ranked.{Ranked}
-use Rattle.triple_store.specs.declared.ranking.SlotText.{SlotText}
 
 -- terms by their texts
 abbrev pub text_order : SlotText → SlotText → Ordering
@@ -33,23 +32,6 @@ triple_with terms key = record {
   predicate = undo (text_with terms key.second);
   object = undo (text_with terms key.third);
 }
-
--- the rank that is told for a slot
-abbrev pub rank_of : List ℕ → ℕ → ℕ
-rank_of ranks slot = slice_index_or ranks slot 0
-
-abbrev pub rank_key : List ℕ → Key → Key
-rank_key ranks key = record { first = rank_of ranks key.first; second = rank_of ranks key.second; third = rank_of ranks key.third }
-
--- the term with the rank that is told for a slot has this slot
-pub record IsRankOf (terms : List SlotText) (ranks : List ℕ) (slot : ℕ) : Type 0 where
-  pub within : rank_of ranks slot < length terms
-  pub is : (d : SlotText) → (slice_index_or terms (rank_of ranks slot) d).slot ≡ slot
-
-pub record IsRanked (terms : List SlotText) (ranks : List ℕ) (key : Key) : Type 0 where
-  pub first : IsRankOf terms ranks key.first
-  pub second : IsRankOf terms ranks key.second
-  pub third : IsRankOf terms ranks key.third
 
 -- the triples that the ranks stand for
 abbrev pub ranked_triples : Ranked → List Triple

@@ -10,7 +10,7 @@ use Rattle.rdf_term.specs.Order.{term_cmp}
 use Rattle.rdf_term.specs.Text.{term_text}
 use Rattle.text_region.specs.declared.piece.Piece.{Piece}
 use Rattle.text_region.specs.Region.{Texts, bytes_of, texts_code}
-use Rattle.slot_index.specs.declared.key.Key.{Key}
+use Rattle.slot_keys.specs.declared.key.Key.{Key}
 use Rattle.triple_store.specs.declared.catalog.Catalog.{Catalog}
 use Rattle.triple_store.specs.contracts.catalog.Catalog as catalog
 use Rattle.triple_store.specs.Counts.{Counts}

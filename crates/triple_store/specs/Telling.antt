@@ -6,9 +6,9 @@ use Rattle.rising.specs.Rising.{difference}
 use Rattle.rdf_term.specs.declared.triple.Triple.{Triple}
 use Rattle.rdf_term.specs.Order.{triple_cmp}
 use Rattle.rdf_term.specs.Text.{triple_text}
-use Rattle.slot_index.specs.declared.key.Key.{Key}
+use Rattle.slot_keys.specs.declared.key.Key.{Key}
 use Rattle.slot_index.specs.Counts as keyed
-use Rattle.slot_index.specs.Keys.{key_cmp}
+use Rattle.slot_keys.specs.Keys.{key_cmp}
 use Rattle.triple_store.specs.declared.catalog.Catalog.{Catalog}
 use Rattle.triple_store.specs.declared.telling.Change.{Change}
 use Rattle.triple_store.specs.declared.telling.Telling.{Telling}

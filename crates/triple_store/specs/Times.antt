@@ -1,11 +1,10 @@
 -- How many times each triple of an owner comes: several parts of what it has may give one triple.
-use Rattle.std.specs.Prelude.{◌≡◌, ◌+◌, ◌<◌, ◌≤◌, ℕ, cond, nat_lt, List, [], ◌∷◌, length, get_or, count_by}
+use Rattle.std.specs.Prelude.{◌≡◌, ◌+◌, ◌<◌, ◌≤◌, ℕ, List, length, get_or, count_by}
 use Rattle.std.specs.Ordering.{eq_by_cmp}
 use Rattle.rdf_term.specs.declared.triple.Triple.{Triple}
 use Rattle.rdf_term.specs.Order.{triple_cmp}
 use Rattle.text_region.specs.Region.{Texts}
-use Rattle.slot_index.specs.declared.key.Key.{Key}
-use Rattle.slot_index.specs.Keys.{same_key}
+use Rattle.slot_keys.specs.declared.key.Key.{Key}
 use Rattle.triple_store.specs.declared.catalog.Catalog.{Catalog}
 use Rattle.triple_store.specs.Slots.{triple_at}
 use Rattle.triple_store.specs.Stored.{AreKeysOf}
@@ -28,32 +27,6 @@ pub record AreTimesOf (store : Catalog) (texts : Texts) (keys : List Key) (count
 pub record AddTimes (store : Catalog) (texts : Texts) (keys : List Key) (old new : List ℕ) (triples : List Triple) : Type 0 where
   pub as_many : length new ≡ length old
   pub counted : (index : ℕ) (other : Key) → index < length keys → get_or new index 0 ≡ get_or old index 0 + times (triple_of_key store texts keys index other) triples
-
--- the count beside a key in a list, and 0 where the key isn't there
-abbrev pub count_beside : List Key → List ℕ → Key → ℕ
-count_beside [] counts key = 0
-count_beside (k ∷ keys) [] key = 0
-count_beside (k ∷ keys) (n ∷ counts) key = cond (same_key key k) n (count_beside keys counts key)
-
--- how many times a key stands in a list
-abbrev pub key_times : Key → List Key → ℕ
-key_times key keys = count_by (same_key key) keys
-
--- the counts of the keys after more of them came, one by one
-pub record AddKeys (keys : List Key) (old new : List ℕ) (met : List Key) : Type 0 where
-  pub as_many : length new ≡ length old
-  pub counted : (index : ℕ) (other : Key) → index < length keys → get_or new index 0 ≡ get_or old index 0 + key_times (get_or keys index other) met
-
--- the same where each key began with the count beside it in another list
-pub record MovesKeys (had : List Key) (left : List ℕ) (keys : List Key) (counts : List ℕ) (met : List Key) : Type 0 where
-  pub as_many : length counts ≡ length keys
-  pub counted : (index : ℕ) (other : Key) → index < length keys → get_or counts index 0 ≡ count_beside had left (get_or keys index other) + key_times (get_or keys index other) met
-
--- the keys whose counts aren't 0
-abbrev pub counted_keys : List Key → List ℕ → List Key
-counted_keys [] counts = []
-counted_keys (k ∷ keys) [] = []
-counted_keys (k ∷ keys) (n ∷ counts) = cond (nat_lt 0 n) (k ∷ counted_keys keys counts) (counted_keys keys counts)
 
 -- some triples of an owner are gone, each from among those that it had, and others came: so it has these now
 pub record Becomes (old new gone come : List Triple) : Type 0 where

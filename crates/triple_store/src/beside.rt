@@ -1,26 +1,23 @@
 // Triples of one owner in the place of some that it had, while others stay.
 
 ghost use Rattle.std.specs.Prelude.{◌≡◌, ◌+◌, ◌++◌, ◌<◌, ◌≤◌, true, List, length, Err, IfOk, OnOk, OnErr};
-ghost use Rattle.std.specs.FinMap as map;
 ghost use Rattle.std.specs.Prelude.{map as mapped};
+ghost use Rattle.std.specs.FinMap as map;
 ghost use Rattle.std.specs.List.{AllByRecursion};
-ghost use Rattle.rising.specs.Rising.{IsRising, has, sorted};
+ghost use Rattle.rising.specs.Rising.{IsRising, has};
 ghost use Rattle.rdf_term.specs.{declared.triple.Triple.Triple, Fit.HasFitAndShortTerms, Order.triple_cmp};
 ghost use Rattle.text_region.specs.declared.piece.Piece.{Piece as ThePiece};
-ghost use Rattle.slot_index.specs.{declared.key.Key.Key as TheKey, Keys.key_cmp};
+ghost use Rattle.slot_keys.specs.{declared.key.Key.Key as TheKey, KeyCounts.count_beside, KeyCounts.counted_keys, Keys.key_cmp};
 ghost use Rattle.triple_store.specs.{Costs.Costs, Counts.Exchanges, Counts.count_of, Moves.triples_at, Parts.StandFor, Room.room_for};
 ghost use Rattle.triple_store.specs.Stored.{AreKeysOf, HasKey, IsStored, KeepsKeys, beside, counts_in, is_key, limit_of};
-ghost use Rattle.triple_store.specs.{Telling.TellsIf, Telling.if_told, Times.count_beside, Times.counted_keys};
+ghost use Rattle.triple_store.specs.Telling.{TellsIf, if_told};
 
 use crate::StoreFault;
 use crate::catalog::Catalog;
-use crate::exchanging::{Met, Swap, no_keys_met};
-use crate::keeping::{KeysBeside, Left, keys_beside};
-use crate::keys::{Keys, in_order};
+use crate::exchanging::Swap;
 use crate::telling::{Change, Sides, Telling};
-use block_index::Steps;
-use slot_index::Key;
-use std::alloc::Global;
+use comparison_steps::Steps;
+use slot_keys::{Keys, KeysBeside, Left, Met, all_in_order, keys_beside, no_keys_met};
 use std::sync::ledger::Ledger;
 use text_region::Region;
 use triple_texts::TripleTexts;
@@ -109,13 +106,4 @@ impl Catalog {
             }
         }
     }
-}
-
-// The keys in order.
-fn all_in_order(alloc: Global, old: &[Key], met: Met) -> Keys
-    requires { IsRising key_cmp old.now }
-    ensures { result.rising.items ≡ sorted key_cmp met.keys.items }
-{
-    let Met { keys, old_indices } = met;
-    in_order(alloc, old, keys, old_indices.as_slice())
 }

@@ -5,7 +5,7 @@ ghost use Rattle.std.specs.FinMap as map;
 ghost use Rattle.rdf_term.specs.declared.triple.Triple.{Triple};
 ghost use Rattle.text_region.specs.{declared.piece.Piece.Piece as ThePiece, Class.IsClassOf};
 ghost use Rattle.text_region.specs.Region.{Texts, bytes_of, live, made};
-ghost use Rattle.slot_index.specs.declared.key.Key.{Key};
+ghost use Rattle.slot_keys.specs.declared.key.Key.{Key};
 ghost use Rattle.triple_store.specs.Stored.{Changes, HasKey, IsStored, beside, counts_in, limit_of};
 
 use rdf_term::OutOfMemory;

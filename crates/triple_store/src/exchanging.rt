@@ -6,22 +6,18 @@ ghost use Rattle.std.specs.List.{AllByRecursion};
 ghost use Rattle.rising.specs.Rising.{IsRising, has};
 ghost use Rattle.rdf_term.specs.{declared.triple.Triple.Triple, Fit.HasFitAndShortTerms, Order.triple_cmp};
 ghost use Rattle.text_region.specs.declared.piece.Piece.{Piece as ThePiece};
-ghost use Rattle.slot_index.specs.{declared.key.Key.Key as TheKey, Keys.key_cmp};
+ghost use Rattle.slot_keys.specs.{declared.key.Key.Key as TheKey, Keys.key_cmp};
 ghost use Rattle.triple_store.specs.{Costs.Costs, Counts.Exchanges, Counts.count_of, Moves.TakesIn, Moves.triples_at, Room.room_for};
 ghost use Rattle.triple_store.specs.Stored.{AreKeysOf, IsStored, KeepsKeys, beside, counts_in, is_key, limit_of};
 ghost use Rattle.triple_store.specs.Telling.{TellsIf, if_told};
 
 use crate::StoreFault;
-use crate::added::Added;
 use crate::catalog::Catalog;
 use crate::finding::{Near, known_subject};
-use crate::keys::{KeySlices, Keys, NOWHERE, in_order};
-use crate::seen::Seen;
 use crate::telling::{Exchange, Sides, Telling};
-use block_index::Steps;
+use comparison_steps::Steps;
 use rdf_term::OutOfMemory;
-use slot_index::Key;
-use std::alloc::Global;
+use slot_keys::{Added, KeySlices, Keys, Met, NOWHERE, Seen, in_order, no_keys_met};
 use std::sync::ledger::Ledger;
 use text_region::Region;
 use triple_texts::TripleTexts;
@@ -38,13 +34,6 @@ impl<'a> Swap<'a> {
     fn more(&self) -> usize {
         self.new.len().saturating_sub(self.old.rising.len())
     }
-}
-
-// The keys of the triples that came, one by one, and the index of each among the keys that the owner had.
-#[derive(Drop)]
-pub(crate) struct Met {
-    pub(crate) keys: Vec<Key>,
-    pub(crate) old_indices: Vec<u32>,
 }
 
 impl Catalog {
@@ -197,18 +186,4 @@ impl Catalog {
         }
         Ok(())
     }
-}
-
-// No keys, with room for so many.
-pub(crate) fn no_keys_met(alloc: Global, room: usize) -> Result<Met, OutOfMemory>
-    ensures none { IfOk result (λ met. met.keys.items ≡ []) }
-    ensures room { IfOk result (λ met. room ≤ vec_capacity met.keys) }
-    ensures no_old_indices { IfOk result (λ met. vec_len met.old_indices ≡ 0) }
-    ensures room_for_indices { IfOk result (λ met. room ≤ vec_capacity met.old_indices) }
-    ensures free { room ≡ 0 → IsOk result }
-{
-    Ok(Met {
-        keys: Vec::with_capacity(alloc, room)?,
-        old_indices: Vec::with_capacity(alloc, room)?,
-    })
 }

@@ -3,25 +3,19 @@
 ghost use Rattle.std.specs.Prelude.{◌≡◌, ◌<◌, true, false, length, Some, IfSome, IfErr, IfOk};
 ghost use Rattle.rising.specs.Rising.{IsRising, has};
 ghost use Rattle.term_pool.specs.Pool.{LiesIn, text_in_slot};
-ghost use Rattle.slot_index.specs.{declared.key.Key.Key as TheKey, Keys.key_cmp};
-ghost use Rattle.triple_store.specs.{Added.is_held, Interning.AreHints, Interning.IsOfSubject, Interning.IsOfTripleBefore, Slots.HasTexts};
+ghost use Rattle.slot_keys.specs.{declared.key.Key.Key as TheKey, Added.is_held, Keys.key_cmp};
+ghost use Rattle.triple_store.specs.{Interning.AreHints, Interning.IsOfSubject, Interning.IsOfTripleBefore, Slots.HasTexts};
 ghost use Rattle.triple_store.specs.Stored.{IsStored};
 
-use crate::added::Added;
 use crate::catalog::Catalog;
 use crate::interning::Hints;
-use crate::keys::{KeySlices, NOWHERE, narrowed};
-use crate::seen::Seen;
-use slot_index::Key;
+use slot_keys::{Added, Key, KeySlices, NOWHERE, Seen, behind, narrowed};
 use term_pool::Pool;
 use text_region::Region;
 use triple_texts::{TripleText, TripleTexts};
 
 // How many indices of the walk are tried for the next triple: a triple or two may be gone.
 const TRIED: usize = 3;
-
-// How far ahead in the walk an index is looked for, which was found by a search.
-const AHEAD: usize = 64;
 
 // Where a triple is looked for first: among the keys that the owner had, from an index of their walk on, and in the slots of the key before
 // it or those that came a short time ago. The slot of its subject may be known.
@@ -137,15 +131,4 @@ pub(crate) fn known_subject(
     } else {
         None
     }
-}
-
-// Where the walk goes on after an index that is near. Only a hint: if the index isn't near, the walk stays where it was.
-fn behind(walk: &[u32], next: usize, old_index: u32) -> usize {
-    for past in 0..AHEAD {
-        let at = next.saturating_add(past);
-        if walk.get(at) == Some(&old_index) {
-            return at.saturating_add(1);
-        }
-    }
-    next
 }

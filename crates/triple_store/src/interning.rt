@@ -8,7 +8,7 @@ ghost use Rattle.triple_store.specs.Interning.{AreHints, HasTermsOf, InternsTrip
 ghost use Rattle.triple_store.specs.{Room.distinct, Room.terms_of, Slots.HasCanonicalTexts, Slots.IsAllOf, Slots.triple_of, Slots.uses};
 
 use crate::StoreFault;
-use slot_index::Key;
+use slot_keys::Key;
 use term_pool::{Pool, Slot};
 use text_region::Region;
 use triple_texts::TripleText;

@@ -3,23 +3,21 @@
 //! `store` has the store: a catalog of what is stored, and the region with the texts of the terms, each once, and with texts of the
 //! caller's own beside them. `updates` and `queries` have its other calls, each with its steps counted and without. What they call over
 //! the region stands below: `catalog` is a pool of terms and an index of triples of slots. `interning` uses the terms of a triple once
-//! more, all or none, and once less. `keys` has the keys of one owner, in order and as its triples came, and `added` those that an exchange adds. On these `changing` gives a
-//! triple one owner more or less; triple by triple `exchanging` puts the triples of one owner in the place of others, whose keys `finding` finds (`seen` has slots of terms that came a short time ago), `releasing` takes
-//! them away, and `patching` applies a patch. `times` counts how many times each triple of an owner comes; by these counts `parting` takes what is gone out of what an
-//! owner had, while the keys that are left stay (`beside`, `keeping`, `laying`), and `part_updates` has the store's calls for that. `telling` finds what an exchange changed, in its middle. `rows` finds the triples that agree with a pattern, as slices of their texts, and `ranking` puts all
-//! triples in order; `reading` reads triples back from these. `matching` counts the owners of a triple, and `room` says how many terms there are.
+//! more, all or none, and once less. On these `changing` gives a triple one owner more or less; triple by triple `exchanging` puts the
+//! triples of one owner in the place of others, whose keys `finding` finds, `releasing` takes them away, and `patching` applies a patch.
+//! The lists of an owner's keys are those of the crate `slot_keys`. `times` counts how many times each triple of an owner comes; by these
+//! counts `parting` takes what is gone out of what an owner had, while the keys that are left stay (`beside`), and `part_updates` has the
+//! store's calls for that. `telling` finds what an exchange changed, in its middle. `rows` finds the triples that agree with a pattern, as
+//! slices of their texts, and `ranking` puts all triples in order; `reading` reads triples back from these. `matching` counts the owners
+//! of a triple, and `room` says how many terms there are.
 #![tactic(auto)]
 
-mod added;
 mod beside;
 mod catalog;
 mod changing;
 mod exchanging;
 mod finding;
 mod interning;
-mod keeping;
-mod keys;
-mod laying;
 mod matching;
 mod part_updates;
 mod parting;
@@ -30,15 +28,14 @@ mod reading;
 mod releasing;
 mod room;
 mod rows;
-mod seen;
 mod store;
 mod telling;
 mod times;
 mod updates;
 
-pub use keys::{KeySlices, Keys};
 pub use part_updates::{PartSwap, TimedExchange};
 pub use rows::Rows;
+pub use slot_keys::{KeySlices, Keys};
 pub use store::Store;
 pub use telling::{Change, Exchange, Telling, TripleLines};
 /// Why a store takes no triples: the limit on distinct terms is reached, or memory was refused.

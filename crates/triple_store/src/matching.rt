@@ -2,17 +2,18 @@
 
 ghost use Rattle.std.specs.Prelude.{◌≡◌, ◌+◌, ◌*◌, ◌^◌, ◌<◌, ◌≤◌, ℕ, true, length, IfNone, IfSome};
 ghost use Rattle.std.specs.FinMap as map;
-ghost use Rattle.block_index.specs.Steps.{WithinSteps};
+ghost use Rattle.comparison_steps.specs.Steps.{WithinSteps};
 ghost use Rattle.rdf_term.specs.Pattern.{agrees, agrees_at, rows};
 ghost use Rattle.term_pool.specs.Pool.{LiesIn, count_at, text_in_slot};
-ghost use Rattle.slot_index.specs.declared.key.Key.{Key as TheKey};
+ghost use Rattle.slot_keys.specs.declared.key.Key.{Key as TheKey};
 ghost use Rattle.triple_store.specs.{Counts.count_of, Matching.key_agrees, Matching.slot_agrees};
 ghost use Rattle.triple_store.specs.{Slots.HasTriple, Slots.term_in, Slots.triple_at, Stored.IsStored, Stored.counts_in, Stored.is_key};
 
 use crate::catalog::Catalog;
-use block_index::Steps;
+use comparison_steps::Steps;
 use rdf_term::{Pattern, Term, Triple};
-use slot_index::{Key, SlotPattern};
+use slot_index::SlotPattern;
+use slot_keys::Key;
 use std::sync::ledger::Ledger;
 use term_pool::Pool;
 use text_region::Region;

@@ -10,10 +10,10 @@ ghost use Rattle.triple_store.specs.Updates.{AreStored, KeepsRest, MayCome};
 
 use crate::StoreFault;
 use crate::exchanging::Swap;
-use crate::keys::{KeySlices, Keys};
 use crate::store::Store;
 use crate::telling::{Change, Telling};
-use block_index::Steps;
+use comparison_steps::Steps;
+use slot_keys::{KeySlices, Keys};
 use std::marker::Brand;
 use std::sync::ledger::{Blank, Ledger};
 use triple_texts::TripleTexts;

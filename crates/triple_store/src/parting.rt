@@ -1,26 +1,20 @@
 // Of the triples of one owner some are gone, and others come.
 
-ghost use Rattle.std.specs.Prelude.{◌≡◌, ◌+◌, ◌<◌, true, List, length};
+ghost use Rattle.std.specs.Prelude.{◌≡◌, ◌+◌, ◌<◌, List, length};
 ghost use Rattle.std.specs.FinMap as map;
-ghost use Rattle.rising.specs.Rising.{IsRising, has};
 ghost use Rattle.rdf_term.specs.declared.triple.Triple.{Triple};
-ghost use Rattle.slot_index.specs.{declared.key.Key.Key as TheKey, Keys.key_cmp};
 ghost use Rattle.triple_store.specs.{Costs.Costs, PartUpdates.IsPartsExchange, PartUpdates.IsTimedExchange, PartUpdates.store_of};
-ghost use Rattle.triple_store.specs.{Stored.AreKeysOf, Stored.IsStored, Stored.counts_in, Stored.is_key, Telling.if_told};
-ghost use Rattle.triple_store.specs.{Times.AddKeys, Times.AreTimesOf, Times.Becomes, Updates.AreStored, Updates.KeepsRest, Updates.MayCome};
+ghost use Rattle.triple_store.specs.{Stored.AreKeysOf, Stored.IsStored, Stored.counts_in, Telling.if_told};
+ghost use Rattle.triple_store.specs.{Times.AreTimesOf, Times.Becomes, Updates.AreStored, Updates.KeepsRest, Updates.MayCome};
 
 use crate::StoreFault;
 use crate::beside::{Beside, Swapped};
 use crate::catalog::Catalog;
 use crate::exchanging::Swap;
-use crate::keeping::Left;
-use crate::keys::KeySlices;
 use crate::part_updates::{PartSwap, TimedExchange};
 use crate::telling::Telling;
-use crate::times::{add_keys, copied, no_counts};
-use block_index::Steps;
-use slot_index::Key;
-use std::alloc::Global;
+use comparison_steps::Steps;
+use slot_keys::{KeySlices, Left, copied, no_counts, times_after};
 use std::sync::ledger::Ledger;
 use text_region::Region;
 use triple_texts::TripleTexts;
@@ -134,17 +128,5 @@ impl Catalog {
             Some(times) => times,
             None => Vec::new(self.alloc),
         }
-    }
-}
-
-// The times of keys: the counts that they begin with, and once more for each time that they were met. Empty where one would be too large.
-fn times_after(alloc: Global, keys: KeySlices<'_>, counts: Vec<u16>, met: &[Key]) -> Vec<u16>
-    requires rising { IsRising key_cmp keys.rising.now }
-    requires as_many { length counts.items ≡ length keys.rising.now }
-    ensures { 0 < length result.items → AddKeys keys.entry.rising.now counts.items result.items met.now }
-{
-    match add_keys(keys, counts, met) {
-        Some(times) => times,
-        None => Vec::new(alloc),
     }
 }

@@ -11,9 +11,9 @@ ghost use Rattle.triple_store.specs.Stored.{IsStored, KeepsKeys, beside, counts_
 
 use crate::StoreFault;
 use crate::catalog::Catalog;
-use crate::keys::KeySlices;
-use block_index::Steps;
+use comparison_steps::Steps;
 use rdf_term::{OutOfMemory, Triple};
+use slot_keys::KeySlices;
 use std::alloc::Global;
 use std::sync::ledger::Ledger;
 use text_region::Region;

@@ -4,15 +4,15 @@
 ghost use Rattle.std.specs.Prelude.{◌≡◌, ◌+◌, ◌*◌, ◌^◌, ◌<◌, ◌≤◌, ℕ, List, length, IfOk};
 ghost use Rattle.std.specs.FinMap as map;
 ghost use Rattle.rising.specs.Rising.{sorted};
-ghost use Rattle.block_index.specs.Steps.{WithinSteps};
+ghost use Rattle.comparison_steps.specs.Steps.{WithinSteps};
 ghost use Rattle.rdf_term.specs.{declared.triple.Triple.Triple as TheTriple, Order.triple_cmp, Pattern.rows};
 ghost use Rattle.triple_store.specs.{Counts.count_of, StoreState.AreKeysOf, StoreState.counts_in, Updates.AreStored};
 
-use crate::keys::KeySlices;
 use crate::rows::Rows;
 use crate::store::Store;
-use block_index::Steps;
+use comparison_steps::Steps;
 use rdf_term::{OutOfMemory, Pattern, Triple, TripleSet};
+use slot_keys::KeySlices;
 use std::marker::Brand;
 use std::sync::ledger::{Blank, Ledger};
 

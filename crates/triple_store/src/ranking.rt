@@ -1,26 +1,17 @@
 // All stored triples in their order, by the ranks of their terms.
 
 ghost use Rattle.std.specs.Prelude.{◌≡◌, ◌<◌, length, map as mapped, slice_get, IfOk, IfSome, Some};
-ghost use Rattle.std.specs.{List.All, List.Sorted.IsPermutation, List.Sorted.IsSorted};
+ghost use Rattle.std.specs.{List.Sorted.IsPermutation, List.Sorted.IsSorted};
 ghost use Rattle.rdf_term.specs.Order.{triple_cmp};
 ghost use Rattle.term_pool.specs.Pool.{text_in_slot};
-ghost use Rattle.triple_store.specs.Ranks.{AreRankedRows, AreTextsOf, IsRanked, IsRankOf, rank_key, rank_of, ranked_triples, text_order};
+ghost use Rattle.triple_store.specs.Ranks.{AreRankedRows, AreTextsOf, ranked_triples, text_order};
 ghost use Rattle.triple_store.specs.{Slots.HasCanonicalTexts, Slots.triple_at, Slots.triple_of, Stored.IsStored};
 
 use crate::catalog::Catalog;
-use crate::keys::{NOWHERE, narrowed};
 use rdf_term::OutOfMemory;
-use slot_index::Key;
-use std::alloc::Global;
+use slot_keys::{Key, SlotText, highest_slot, ranked_keys, ranks_of};
 use text_region::Region;
 use triple_texts::TripleText;
-
-// A term that is there: its canonical text, and its slot.
-#[derive(Clone, Copy, Debug)]
-pub(crate) struct SlotText<'a> {
-    pub(crate) text: &'a [u8],
-    pub(crate) slot: u32,
-}
 
 // Triples whose terms are named by their ranks: the indices in a rising list of texts.
 #[derive(Debug, Drop)]
@@ -92,72 +83,10 @@ impl Catalog {
     }
 }
 
-// The highest slot of these keys; 0 where there is no key.
-fn highest_slot(keys: &[Key]) -> u32 {
-    let mut highest = 0;
-    for key in keys {
-        highest = key.first.max(key.second).max(key.third).max(highest);
-    }
-    highest
-}
-
 // Sorts terms by their texts. It takes no memory.
 fn sort_terms(terms: &mut Vec<SlotText<'_>>)
     ensures same { IsPermutation terms.old.items terms.new.items }
     ensures sorted { IsSorted text_order terms.new.items }
 {
     terms.sort_unstable_by(|a, b| a.text.cmp(b.text));
-}
-
-// The rank of the term in each slot, and `NOWHERE` if there is none. Only a hint: the reader of a rank checks the slot of its term.
-fn ranks_of(alloc: Global, terms: &[SlotText<'_>], slots: usize) -> Result<Vec<u32>, OutOfMemory> {
-    let mut ranks = Vec::new(alloc);
-    ranks.resize(slots, NOWHERE)?;
-    for (rank, term) in terms.iter().enumerate() {
-        let slot = term.slot as usize;
-        if slot < ranks.len() {
-            ranks[slot] = narrowed(rank);
-        }
-    }
-    Ok(ranks)
-}
-
-// The ranks in the place of the slots of each key.
-fn ranked_keys(
-    alloc: Global,
-    terms: &[SlotText<'_>],
-    ranks: &[u32],
-    keys: &[Key],
-) -> Result<Option<Vec<Key>>, OutOfMemory>
-    ensures keys { IfOk result (λ found. IfSome found (λ ranked. ranked.items ≡ mapped (rank_key ranks.now) keys.now)) }
-    ensures ranked { IfOk result (λ found. IfSome found (λ _. All (IsRanked terms.now ranks.now) keys.now)) }
-{
-    let mut ranked = Vec::with_capacity(alloc, keys.len())?;
-    for key in keys {
-        let Some(ranks_of_key) = ranked_key(terms, ranks, *key) else {
-            return Ok(None);
-        };
-        ranked.push(ranks_of_key)?;
-    }
-    Ok(Some(ranked))
-}
-
-// The same for one key.
-fn ranked_key(terms: &[SlotText<'_>], ranks: &[u32], key: Key) -> Option<Key>
-    ensures { IfSome result (λ ranked. (ranked ≡ rank_key ranks.now key) × IsRanked terms.now ranks.now key) }
-{
-    Some(Key {
-        first: rank_in(terms, ranks, key.first)?,
-        second: rank_in(terms, ranks, key.second)?,
-        third: rank_in(terms, ranks, key.third)?,
-    })
-}
-
-// The rank of the term in a slot, where it is told and right.
-fn rank_in(terms: &[SlotText<'_>], ranks: &[u32], slot: u32) -> Option<u32>
-    ensures { IfSome result (λ rank. (rank ≡ rank_of ranks.now slot) × IsRankOf terms.now ranks.now slot) }
-{
-    let rank = *ranks.get(slot as usize)?;
-    let term = terms.get(rank as usize)?;
-    if term.slot == slot { Some(rank) } else { None }
 }

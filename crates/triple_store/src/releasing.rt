@@ -1,21 +1,20 @@
 // Triples of one owner that go.
 
-ghost use Rattle.std.specs.Prelude.{◌≡◌, ◌+◌, true, List, [], length, is_ok, IfOk, IsOk, OnOk, OnErr};
+ghost use Rattle.std.specs.Prelude.{◌≡◌, ◌+◌, true, List, [], length, IfOk, IsOk, OnOk, OnErr};
 ghost use Rattle.std.specs.FinMap as map;
-ghost use Rattle.std.specs.List.Sorted.{IsSearchInRange};
 ghost use Rattle.rising.specs.Rising.{IsRising, difference, has};
 ghost use Rattle.rdf_term.specs.declared.triple.Triple.{Triple};
 ghost use Rattle.text_region.specs.declared.piece.Piece.{Piece as ThePiece};
-ghost use Rattle.slot_index.specs.{declared.key.Key.Key as TheKey, Keys.key_cmp};
+ghost use Rattle.slot_keys.specs.{declared.key.Key.Key as TheKey, Keys.key_cmp};
 ghost use Rattle.triple_store.specs.{Costs.Costs, Counts.Exchanges, Moves.Removes};
 ghost use Rattle.triple_store.specs.Stored.{AreKeysOf, IsStored, KeepsKeys, beside, counts_in, is_key, limit_of};
 ghost use Rattle.triple_store.specs.Telling.{TellsIf, if_told};
 
 use crate::catalog::Catalog;
 use crate::telling::{Change, Sides, Telling};
-use block_index::Steps;
+use comparison_steps::Steps;
 use rdf_term::OutOfMemory;
-use slot_index::Key;
+use slot_keys::{Key, find_from};
 use std::sync::ledger::Ledger;
 use text_region::Region;
 
@@ -95,17 +94,4 @@ impl Catalog {
             }
         }
     }
-}
-
-// Where a key stands in a rising list, or would stand. A place is tried first, so that to look for the keys of a list that
-// has nearly the same ones costs no search.
-pub(crate) fn find_from(keys: &[Key], key: Key, next: usize) -> Result<usize, usize>
-    requires { IsRising key_cmp keys.now }
-    ensures bound { IsSearchInRange result (length keys.now) }
-    ensures there { is_ok result ≡ has key_cmp key keys.now }
-{
-    if next < keys.len() && keys[next] == key {
-        return Ok(next);
-    }
-    keys.binary_search(&key)
 }

@@ -4,7 +4,7 @@ ghost use Rattle.std.specs.Prelude.{◌≡◌, ◌≤◌, ℕ, [], length, Some,
 ghost use Rattle.std.specs.FinMap as map;
 ghost use Rattle.rdf_term.specs.declared.triple.Triple.{Triple};
 ghost use Rattle.text_region.specs.{declared.piece.Piece.Piece as ThePiece, Class.IsClassOf, Region.live, Region.made};
-ghost use Rattle.slot_index.specs.declared.key.Key.{Key};
+ghost use Rattle.slot_keys.specs.declared.key.Key.{Key};
 ghost use Rattle.triple_store.specs.Room.{room_for};
 ghost use Rattle.triple_store.specs.StoreState.{AreLaid, HasKey, IsSound, beside, counts_in, limit_of};
 ghost use Rattle.triple_store.specs.Stored.{Changes};

@@ -4,16 +4,14 @@ ghost use Rattle.std.specs.Prelude.{◌≡◌, ◌+◌, true, length, IfOk, IsOk
 ghost use Rattle.std.specs.FinMap as map;
 ghost use Rattle.rising.specs.Rising.{IsRising, has, sorted};
 ghost use Rattle.rdf_term.specs.Order.{triple_cmp};
-ghost use Rattle.slot_index.specs.{declared.key.Key.Key as TheKey, Keys.key_cmp};
+ghost use Rattle.slot_keys.specs.{declared.key.Key.Key as TheKey, Keys.key_cmp};
 ghost use Rattle.triple_store.specs.{Costs.Costs, Moves.triples_at, Stored.IsStored, Stored.is_key};
 ghost use Rattle.triple_store.specs.Telling.{AreLinesOf, LinesIf, if_told, sole};
 
 use crate::catalog::Catalog;
-use crate::keys::Keys;
-use crate::releasing::find_from;
-use block_index::Steps;
+use comparison_steps::Steps;
 use rdf_term::OutOfMemory;
-use slot_index::Key;
+use slot_keys::{Key, Keys, find_from};
 use std::sync::ledger::Ledger;
 use text_region::Region;
 

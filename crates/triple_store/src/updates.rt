@@ -7,11 +7,11 @@ ghost use Rattle.triple_store.specs.Updates.{AreStored, IsExchange, IsPatched, I
 
 use crate::StoreFault;
 use crate::exchanging::Swap;
-use crate::keys::{KeySlices, Keys};
 use crate::store::Store;
 use crate::telling::{Change, Exchange, Telling};
-use block_index::Steps;
+use comparison_steps::Steps;
 use rdf_term::OutOfMemory;
+use slot_keys::{KeySlices, Keys};
 use std::marker::Brand;
 use std::sync::ledger::{Blank, Ledger};
 use triple_patch::Patch;

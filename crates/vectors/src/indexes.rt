@@ -2,8 +2,9 @@
 
 ghost use Rattle.std.specs.Prelude.{◌≡◌, ◌<◌};
 
-use block_index::{BlockIndex, Steps};
-use slot_index::Key;
+use block_index::BlockIndex;
+use comparison_steps::Steps;
+use slot_keys::Key;
 use std::alloc::Global;
 use std::marker::Brand;
 use std::process::Abort;

@@ -15,8 +15,8 @@ use Rattle.entity_state.specs.Record.{blank}
 use Rattle.entity_state.specs.Table.{after_putting, has_room}
 use Rattle.entity_state.specs.Tabled.{Tabled}
 use Rattle.text_region.specs.declared.piece.Piece.{Piece}
-use Rattle.slot_index.specs.declared.key.Key.{Key}
-use Rattle.triple_store.specs.declared.keys.Keys.{Keys}
+use Rattle.slot_keys.specs.declared.key.Key.{Key}
+use Rattle.slot_keys.specs.declared.keys.Keys.{Keys}
 use Rattle.triple_store.specs.Counts.{Exchanges}
 use Rattle.triple_store.specs.StoreState.{AreKeysOf, IsSound, KeepsKeys, StoreState, beside, counts_in}
 use Rattle.replay_model.specs.Records.{Bytes, Records, record_of}

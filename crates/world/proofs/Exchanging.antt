@@ -19,8 +19,8 @@ use Rattle.entity_state.specs.declared.record.Held.{Held}
 use Rattle.replay_model.specs.Records.{Bytes}
 use Rattle.replay_model.specs.Union.{triples_held}
 use Rattle.replay_model.specs.Versions.{meaning_by, version_at}
-use Rattle.slot_index.specs.declared.key.Key.{Key}
-use Rattle.slot_index.specs.Keys.{key_cmp}
+use Rattle.slot_keys.specs.declared.key.Key.{Key}
+use Rattle.slot_keys.specs.Keys.{key_cmp}
 use Rattle.term_pool.specs.Pool.{one_if}
 use Rattle.triple_store.specs.declared.part_updates.TimedExchange.{TimedExchange}
 use Rattle.triple_store.specs.declared.telling.Telling.{Telling}

@@ -14,8 +14,8 @@ use Rattle.entity_state.specs.Record.{blank, held_revision}
 use Rattle.entity_state.specs.declared.standing.Standing.{Standing}
 use Rattle.entity_state.specs.Standing.{standing_of}
 use Rattle.text_region.specs.declared.piece.Piece.{Piece}
-use Rattle.slot_index.specs.declared.key.Key.{Key}
-use Rattle.slot_index.specs.Keys.{key_cmp}
+use Rattle.slot_keys.specs.declared.key.Key.{Key}
+use Rattle.slot_keys.specs.Keys.{key_cmp}
 use Rattle.term_pool.specs.Pool.{one_if}
 use Rattle.triple_store.specs.Counts.{Counts, Exchanges, count_of}
 use Rattle.triple_store.specs.StoreState.{AreKeysOf, HasKey, IsSound, KeepsKeys, StoreState, beside, counts_in}

@@ -12,7 +12,7 @@ use Rattle.entity_json.specs.Document.{document_of}
 use Rattle.entity_rdf.specs.Dump.{dump}
 use Rattle.munger.specs.Munging.{munged}
 use Rattle.entity_state.specs.declared.record.Held.{Held}
-use Rattle.slot_index.specs.declared.key.Key.{Key}
+use Rattle.slot_keys.specs.declared.key.Key.{Key}
 use Rattle.triple_store.specs.StoreState.{AreKeysOf, StoreState, beside}
 use Rattle.replay_model.specs.Records.{Bytes, record_of}
 use Rattle.replay_model.specs.Union.{triples_held}

@@ -13,8 +13,8 @@ use Rattle.entity_state.specs.declared.state.State.{State}
 use Rattle.entity_state.specs.declared.record.Held.{Held}
 use Rattle.entity_state.specs.declared.record.Record.{Record}
 use Rattle.text_region.specs.declared.piece.Piece.{Piece}
-use Rattle.slot_index.specs.declared.key.Key.{Key}
-use Rattle.triple_store.specs.declared.keys.Keys.{Keys}
+use Rattle.slot_keys.specs.declared.key.Key.{Key}
+use Rattle.slot_keys.specs.declared.keys.Keys.{Keys}
 use Rattle.triple_store.specs.Counts.{Exchanges, count_of}
 use Rattle.triple_store.specs.StoreState.{AreKeysOf, HasKey, IsSound, KeepsKeys, StoreState, beside, counts_in, limit_of}
 use Rattle.triple_store.specs.Stored.{Changes}

@@ -15,10 +15,10 @@ use Rattle.entity_state.specs.Record.{blank}
 use Rattle.replay_model.specs.Records.{Bytes, Records, record_of}
 use Rattle.replay_model.specs.Union.{Meaning, owners, triples_held}
 use Rattle.replay_model.specs.Versions.{meaning_by, version_at}
-use Rattle.slot_index.specs.declared.key.Key.{Key}
+use Rattle.slot_keys.specs.declared.key.Key.{Key}
 use Rattle.text_region.specs.declared.piece.Piece.{Piece}
 use Rattle.triple_store.specs.Counts.{count_of}
-use Rattle.triple_store.specs.declared.keys.Keys.{Keys}
+use Rattle.slot_keys.specs.declared.keys.Keys.{Keys}
 use Rattle.triple_store.specs.StoreState.{KeepsKeys, StoreState, beside, counts_in}
 use Rattle.triple_store.proofs.Lasting.{times_last_if_known}
 use Rattle.world.specs.declared.kept.Kept.{Kept}

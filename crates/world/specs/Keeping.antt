@@ -8,8 +8,8 @@ use Rattle.entity_state.specs.declared.record.Held.{Held}
 use Rattle.entity_state.specs.declared.record.Record.{Record}
 use Rattle.entity_state.specs.Record.{blank}
 use Rattle.text_region.specs.declared.piece.Piece.{Piece}
-use Rattle.slot_index.specs.declared.key.Key.{Key}
-use Rattle.triple_store.specs.declared.keys.Keys.{Keys}
+use Rattle.slot_keys.specs.declared.key.Key.{Key}
+use Rattle.slot_keys.specs.declared.keys.Keys.{Keys}
 use Rattle.triple_store.specs.StoreState.{StoreState, beside}
 use Rattle.triple_store.specs.Stored.{Changes}
 use Rattle.replay_model.specs.Records.{Bytes, Records}

@@ -5,7 +5,7 @@ use Rattle.entity_model.specs.declared.entity.Entity.{Entity}
 use Rattle.page_rdf.specs.declared.counts.Counts.{Counts}
 use Rattle.entity_rdf.specs.Changing.{kept_list}
 use Rattle.replay_model.specs.Records.{Bytes}
-use Rattle.slot_index.specs.declared.key.Key.{Key}
+use Rattle.slot_keys.specs.declared.key.Key.{Key}
 use Rattle.term_pool.specs.declared.fault.PoolFault.{PoolFault}
 use Rattle.term_pool.specs.declared.fault.PoolFault.TheVariants.{Full}
 use Rattle.triple_store.specs.declared.part_updates.TimedExchange.{TimedExchange}

@@ -5,7 +5,7 @@ ghost use Rattle.std.specs.FinMap as map;
 ghost use Rattle.rdf_term.specs.declared.triple.Triple.{Triple};
 ghost use Rattle.term_pool.specs.declared.fault.PoolFault.TheVariants.{Full};
 ghost use Rattle.entity_state.specs.Table.{has_room};
-ghost use Rattle.slot_index.specs.declared.key.Key.{Key as TheKey};
+ghost use Rattle.slot_keys.specs.declared.key.Key.{Key as TheKey};
 ghost use Rattle.triple_store.specs.StoreState.{HasKey, IsSound, beside, counts_in, limit_of};
 ghost use Rattle.entity_model.specs.declared.mapping.MappingVersion.TheVariants.{One};
 ghost use Rattle.replay_model.specs.{Records.record_of, Versions.meaning_by, Versions.with_version};

@@ -1,6 +1,6 @@
 -- Each step halves the gap.
 use Rattle.std.proofs.Common.{◌+◌, ◌-◌, ◌/◌, length, sym, subst, arith}
-use Rattle.block_index.specs.Steps.{Left}
+use Rattle.comparison_steps.specs.Steps.{Left}
 use Rattle.block_index.proofs.Searching.{left_down, left_up, before_here, after_here}
 use Rattle.block_index.proofs.search.search.Goals as goal
 

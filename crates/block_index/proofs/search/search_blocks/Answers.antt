@@ -1,7 +1,7 @@
 -- Each step halves the gap.
 use Rattle.std.proofs.Common.{◌+◌, ◌-◌, ◌/◌, ◌<◌, [], length, sym, subst, arith}
 use Rattle.std.proofs.lemmas.List.{get_or_read}
-use Rattle.block_index.specs.Steps.{Left}
+use Rattle.comparison_steps.specs.Steps.{Left}
 use Rattle.block_index.proofs.Parts.{filled_at}
 use Rattle.block_index.proofs.Searching.{left_down, left_up, before_block, after_block}
 use Rattle.block_index.proofs.search.search_blocks.Goals as goal

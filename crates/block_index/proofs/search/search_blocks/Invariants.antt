@@ -1,6 +1,6 @@
 use Rattle.std.proofs.Common.{◌-◌, ◌≤◌, length}
 use Rattle.block_index.specs.Search.{IsAfterBlock, IsBeforeBlock}
-use Rattle.block_index.specs.Steps.{Left}
+use Rattle.comparison_steps.specs.Steps.{Left}
 use Rattle.block_index.proofs.search.search_blocks.Given as goal
 
 abbrev pub invariant-loop-low : goal.invariant-loop-low

@@ -3,7 +3,7 @@ use Rattle.std.proofs.Common.{◌≡◌, ◌+◌, ◌-◌, ◌/◌, ◌<◌, [],
 use Rattle.std.proofs.lemmas.List.{get_or_read}
 use Rattle.block_index.specs.Blocks.{AreFilled, keys_of}
 use Rattle.block_index.specs.Search.{IsBeforeBlock}
-use Rattle.block_index.specs.Steps.{Left}
+use Rattle.comparison_steps.specs.Steps.{Left}
 use Rattle.block_index.proofs.Grouped.{filled_group}
 use Rattle.block_index.proofs.Located.{before_group, after_group, tied_group, long_map}
 use Rattle.block_index.proofs.Parts.{filled_at}

@@ -1,7 +1,7 @@
 use Rattle.std.proofs.Common.{◌-◌, ◌≤◌, length, map}
 use Rattle.block_index.specs.Blocks.{keys_of}
 use Rattle.block_index.specs.Search.{IsAfterBlock, IsBeforeBlock}
-use Rattle.block_index.specs.Steps.{Left}
+use Rattle.comparison_steps.specs.Steps.{Left}
 use Rattle.block_index.proofs.search.search_groups.Given as goal
 
 abbrev pub invariant-loop-low : goal.invariant-loop-low

@@ -1,6 +1,6 @@
 use Rattle.std.proofs.Common.{◌≡◌, ◌++◌, take, drop}
 use Rattle.std.specs.Prelude.{map}
-use Rattle.slot_index.specs.Keys.{turned}
+use Rattle.slot_keys.specs.Keys.{turned}
 use Rattle.slot_index.proofs.orders.all_turned.Given as goal
 
 abbrev pub invariant-loop-key : goal.invariant-loop-key

@@ -2,8 +2,8 @@
 use Rattle.std.proofs.Common.{◌≡◌, ◌∙◌, ◌+◌, IfOk, length, ap, subst}
 use Rattle.std.proofs.lemmas.List.Sums.{length-filter}
 use Rattle.block_index.specs.Blocks.{keys_of, keys_between}
-use Rattle.block_index.specs.Steps.{WithinSteps}
-use Rattle.slot_index.specs.Keys.{key_cmp}
+use Rattle.comparison_steps.specs.Steps.{WithinSteps}
+use Rattle.slot_keys.specs.Keys.{key_cmp}
 use Rattle.slot_index.specs.Patterns.{low, slots_agree}
 use Rattle.slot_index.proofs.Ranging.{one_range}
 use Rattle.slot_index.proofs.orders.leading.Goals as goal

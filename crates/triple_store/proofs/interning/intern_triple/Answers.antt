@@ -1,10 +1,10 @@
 -- The uses that were counted are taken back, and a pool is full only where its terms and the triple's are too many.
 use Rattle.std.proofs.Common.{◌≡◌, ◌<◌, Result, Err, ◌∙◌, ap, subst}
 use Rattle.term_pool.specs.declared.fault.PoolFault.{PoolFault}
-use Rattle.slot_index.specs.declared.key.Key.{Key}
+use Rattle.slot_keys.specs.declared.key.Key.{Key}
 use Rattle.triple_store.specs.Room.{distinct}
 use Rattle.triple_store.specs.Slots.{triple_of}
-use Rattle.triple_store.proofs.Held.{held, terms_interned, three, too_many, undone}
+use Rattle.triple_store.proofs.Held.{held, terms_interned, three, too_many, undone, used_then}
 use Rattle.triple_store.proofs.Known.{known_later}
 use Rattle.triple_store.proofs.interning.intern_triple.Goals as goal
 
@@ -50,3 +50,36 @@ returns-in-Err-intern_known-2-clause-full c = λ e ts h all.
 
 pub returns-clause-ok : goal.returns-clause-ok
 returns-clause-ok c = held _ _ _ _ _ _ _ _ _ _ c.in-Ok.ensures.ok c.in-Ok-intern_known.ensures.ok c.in-Ok-intern_known-2.ensures.ok
+
+-- a term that was used once more can be let go
+pub release-requires-clause-used : goal.release-requires-clause-used
+release-requires-clause-used c = used_then _ _ _ _ _ _ _ _ c.in-Ok.ensures.lies c.in-Ok.ensures.ok c.in-Err-intern_known.ensures.err
+
+pub release-requires-in-Err-intern_known-2-clause-used : goal.release-requires-in-Err-intern_known-2-clause-used
+release-requires-in-Err-intern_known-2-clause-used c = used_then _ _ _ _ _ _ _ _ c.in-Ok-intern_known.ensures.lies c.in-Ok-intern_known.ensures.ok c.in-Err-intern_known-2.ensures.err
+
+pub release-requires-in-Err-intern_known-2-2-clause-used : goal.release-requires-in-Err-intern_known-2-2-clause-used
+release-requires-in-Err-intern_known-2-2-clause-used c =
+    let same = undone _ _ _ _ _ _ _ _ _ _ c.in-Ok.ensures.lies c.release-in-Err-intern_known-2.ensures.lies c.in-Ok-intern_known.ensures.ok c.in-Err-intern_known-2.ensures.err c.release-in-Err-intern_known-2.ensures.released in
+    used_then _ _ _ _ _ _ _ _ c.in-Ok.ensures.lies c.in-Ok.ensures.ok same
+
+-- what lies beside the terms stays, and so does the limit
+pub returns-in-Err-intern_known-clause-beside : goal.returns-in-Err-intern_known-clause-beside
+returns-in-Err-intern_known-clause-beside c piece = c.release.ensures.beside piece ∙ (c.intern_known-2.ensures.beside piece ∙ c.intern_known.ensures.beside piece)
+
+pub returns-in-Err-intern_known-clause-limit : goal.returns-in-Err-intern_known-clause-limit
+returns-in-Err-intern_known-clause-limit c = c.release.ensures.limit ∙ (c.intern_known-2.ensures.limit ∙ c.intern_known.ensures.limit)
+
+pub returns-in-Err-intern_known-2-clause-beside : goal.returns-in-Err-intern_known-2-clause-beside
+returns-in-Err-intern_known-2-clause-beside c piece =
+    c.release-in-Err-intern_known-2-2.ensures.beside piece ∙ (c.release-in-Err-intern_known-2.ensures.beside piece ∙ (c.intern_known-3.ensures.beside piece ∙ (c.intern_known-2.ensures.beside piece ∙ c.intern_known.ensures.beside piece)))
+
+pub returns-in-Err-intern_known-2-clause-limit : goal.returns-in-Err-intern_known-2-clause-limit
+returns-in-Err-intern_known-2-clause-limit c =
+    c.release-in-Err-intern_known-2-2.ensures.limit ∙ (c.release-in-Err-intern_known-2.ensures.limit ∙ (c.intern_known-3.ensures.limit ∙ (c.intern_known-2.ensures.limit ∙ c.intern_known.ensures.limit)))
+
+pub returns-clause-beside : goal.returns-clause-beside
+returns-clause-beside c piece = c.intern_known-3.ensures.beside piece ∙ (c.intern_known-2.ensures.beside piece ∙ c.intern_known.ensures.beside piece)
+
+pub returns-clause-limit : goal.returns-clause-limit
+returns-clause-limit c = c.intern_known-3.ensures.limit ∙ (c.intern_known-2.ensures.limit ∙ c.intern_known.ensures.limit)

@@ -3,7 +3,7 @@ use Rattle.std.proofs.Common.{rules, is_lt}
 use Rattle.std.specs.Cmp.Lexicographic.{nat_list_cmp_total}
 use Rattle.std.proofs.lemmas.List.Sorted.{ranks_by}
 use Rattle.std.proofs.lemmas.Fn.{always_returns_same}
-use Rattle.triple_store.specs.declared.ranking.SlotText.{SlotText}
+use Rattle.slot_keys.specs.declared.ranking.SlotText.{SlotText}
 use Rattle.triple_store.specs.Ranks.{text_order}
 use Rattle.triple_store.proofs.ranking.sort_terms.Goals as goal
 

@@ -1,7 +1,7 @@
 -- A stored triple has one owner, and as many as are counted beside it.
 use Rattle.std.proofs.Common.{◌+◌, ◌∙◌, sym, ap, subst}
 use Rattle.std.specs.FinMap as map
-use Rattle.block_index.specs.Steps.{WithinSteps}
+use Rattle.comparison_steps.specs.Steps.{WithinSteps}
 use Rattle.slot_index.specs.Counts.{count_of, counts_of}
 use Rattle.slot_index.proofs.More.{counted_absent, counted_there, len-with_more}
 use Rattle.slot_index.proofs.counted.SlotIndex.count.Goals as goal

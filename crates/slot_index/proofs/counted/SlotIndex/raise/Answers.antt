@@ -4,7 +4,7 @@ use Rattle.std.specs.FinMap as map
 use Rattle.std.specs.Bool.{OnFalse}
 use Rattle.std.proofs.lemmas.Bool.{not-true, not-false}
 use Rattle.rising.specs.Rising.{has}
-use Rattle.slot_index.specs.Keys.{key_cmp}
+use Rattle.slot_keys.specs.Keys.{key_cmp}
 use Rattle.slot_index.specs.Counts.{count_of, counts_of, raised}
 use Rattle.slot_index.specs.Counted.{IsCounted, with_more}
 use Rattle.slot_index.proofs.More.{IsCounted-put, IsCounted-more, counted_absent, counted_there, len-with_more, one_more, put_in}

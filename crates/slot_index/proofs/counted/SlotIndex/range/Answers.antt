@@ -2,8 +2,8 @@
 use Rattle.std.proofs.Common.{◌≡◌, ◌∙◌, Bool, IfOk, ◌&&◌, count_by, sym, ap, subst}
 use Rattle.std.specs.FinMap as map
 use Rattle.rising.specs.Rising.{IsRising}
-use Rattle.slot_index.specs.declared.key.Key.{Key}
-use Rattle.slot_index.specs.Keys.{key_cmp}
+use Rattle.slot_keys.specs.declared.key.Key.{Key}
+use Rattle.slot_keys.specs.Keys.{key_cmp}
 use Rattle.slot_index.specs.Patterns.{slots_agree}
 use Rattle.slot_index.specs.Counts.{counts_of}
 use Rattle.slot_index.proofs.More.{keys-with_more, len-with_more}

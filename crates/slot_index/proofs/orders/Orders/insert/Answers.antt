@@ -4,7 +4,7 @@ use Rattle.std.specs.BTreeSet.{insert_key}
 use Rattle.std.proofs.lemmas.Bool.{not-true}
 use Rattle.rising.specs.Rising.{has}
 use Rattle.block_index.specs.Blocks.{keys_of}
-use Rattle.slot_index.specs.Keys.{key_cmp, turned}
+use Rattle.slot_keys.specs.Keys.{key_cmp, turned}
 use Rattle.slot_index.proofs.Passing.{length-insert_key}
 use Rattle.slot_index.proofs.Turning.{IsOrders-insert, has-turned, length-turned, same_orders, undone}
 use Rattle.slot_index.proofs.orders.Orders.insert.Goals as goal

@@ -3,9 +3,9 @@ use Rattle.std.proofs.Common.{◌≡◌, ◌∙◌, ◌+◌, Bool, ◌&&◌, len
 use Rattle.std.specs.Prelude.{map}
 use Rattle.std.proofs.lemmas.Result.{IfOk-weaker}
 use Rattle.block_index.specs.Blocks.{keys_of}
-use Rattle.block_index.specs.Steps.{WithinSteps}
-use Rattle.slot_index.specs.declared.key.Key.{Key}
-use Rattle.slot_index.specs.Keys.{turned}
+use Rattle.comparison_steps.specs.Steps.{WithinSteps}
+use Rattle.slot_keys.specs.declared.key.Key.{Key}
+use Rattle.slot_keys.specs.Keys.{turned}
 use Rattle.slot_index.specs.Patterns.{slots_agree, turned_pattern}
 use Rattle.slot_index.proofs.Ranging.{by_first, by_second, by_third, count_second, count_third, same_steps}
 use Rattle.slot_index.proofs.Turning.{length-turned}

@@ -2,7 +2,7 @@
 use Rattle.std.proofs.Common.{◌∙◌, length, ap, arith}
 use Rattle.std.specs.Set.{remove_key}
 use Rattle.block_index.specs.Blocks.{keys_of}
-use Rattle.slot_index.specs.Keys.{same_key, turned}
+use Rattle.slot_keys.specs.Keys.{same_key, turned}
 use Rattle.slot_index.proofs.Turning.{IsOrders-remove, length-turned, same_orders}
 use Rattle.slot_index.proofs.orders.Orders.remove.Goals as goal
 

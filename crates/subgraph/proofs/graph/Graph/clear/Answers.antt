@@ -1,7 +1,7 @@
 -- The entity has no keys any more, and its triples have one owner less.
 use Rattle.std.proofs.Common.{List, [], sym, subst}
 use Rattle.rdf_term.specs.declared.triple.Triple.{Triple}
-use Rattle.slot_index.specs.declared.key.Key.{Key}
+use Rattle.slot_keys.specs.declared.key.Key.{Key}
 use Rattle.triple_store.specs.Counts.{Exchanges}
 use Rattle.triple_store.specs.StoreState.{AreKeysOf, counts_in, limit_of}
 use Rattle.subgraph.proofs.Stepping.{left_counted, none_counted, sets_left, step_left}

@@ -5,7 +5,7 @@ use Rattle.entity_model.specs.declared.id.EntityId.{EntityId}
 use Rattle.entity_model.specs.EntityId.{entity_cmp}
 use Rattle.term_pool.specs.declared.fault.PoolFault.TheVariants.{Full}
 use Rattle.triple_store.specs.StoreState.{limit_of}
-use Rattle.triple_store.specs.declared.keys.Keys.{Keys}
+use Rattle.slot_keys.specs.declared.keys.Keys.{Keys}
 use Rattle.subgraph.specs.Graph.{IsInStep, keys_at, rising_keys, sets_in}
 use Rattle.subgraph.proofs.Stepping.{are_stored, sets_same, sets_set, step_same, step_set}
 use Rattle.subgraph.proofs.Stored.{may_come, room_is}

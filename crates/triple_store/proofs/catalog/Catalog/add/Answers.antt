@@ -10,9 +10,12 @@ use Rattle.triple_store.specs.Interning.{KeepsTexts}
 use Rattle.triple_store.specs.Slots.{HasTriple, triple_of}
 use Rattle.triple_store.proofs.Costs.{none_came, nothing, one_came}
 use Rattle.triple_store.proofs.Live.{count_image}
-use Rattle.triple_store.proofs.Storing.{again, back, counts_after, counts_kept, counts_unmoved, has_triple, keeps_released, key_after, keys_after, keys_unmoved, live_kept, live_stored, stored_again, stored_new, terms_stored}
+use Rattle.triple_store.proofs.Storing.{again, back, counts_after, counts_kept, counts_unmoved, has_triple, keeps_released, key_after, keys_after, keys_unmoved, live_kept, live_stored, stored_again, stored_new, stored_same, terms_stored}
 use Rattle.triple_store.proofs.catalog.Catalog.add.Given.{Over}
 use Rattle.triple_store.proofs.catalog.Catalog.add.Goals as goal
+
+pub returns-in-Err-clause-stored : goal.returns-in-Err-clause-stored
+returns-in-Err-clause-stored g c = stored_same c.args.self.now _ c.args.region.now _ c.requires.stored refl c.intern_triple.ensures.lies c.in-Err.ensures.err.counts
 
 pub returns-in-Err-clause-err : goal.returns-in-Err-clause-err
 returns-in-Err-clause-err g c = counts_unmoved c.args.self.now _ c.args.region.now _ c.requires.stored (record { kept = λ x t e. c.in-Err.ensures.err.texts x ∙ e }) refl
@@ -67,9 +70,14 @@ returns-in-Ok-false-clause-key g c = key_after c.args.self.now _ c.args.region.n
 pub returns-in-Ok-false-clause-kept : goal.returns-in-Ok-false-clause-kept
 returns-in-Ok-false-clause-kept g c = keys_after c.args.self.now _ c.args.region.now _ c.requires.stored c.in-Ok.key (triple_of c.args.texts.now) c.in-Ok-false.ensures.ok (keeps_back g c)
 
+back_after_fault : (g : Over) (c : goal.After-release_triple-in-Err-raise g) → (x : ℕ) → count_at c.release_triple-in-Err-raise.new.pool x ≡ count_at c.args.self.now.pool x
+back_after_fault g c = back _ c.intern_triple.new.pool _ _ c.intern_triple.new.region c.release_triple-in-Err-raise.new.region c.in-Ok.key c.args.texts.now c.in-Ok.ensures.ok c.release_triple-in-Err-raise.ensures.gone
+
 keeps_after_fault : (g : Over) (c : goal.After-release_triple-in-Err-raise g) → KeepsTexts c.args.self.now.pool c.args.region.now c.release_triple-in-Err-raise.new.pool c.release_triple-in-Err-raise.new.region
-keeps_after_fault g c = keeps_released _ c.intern_triple.new.pool _ _ c.intern_triple.new.region _ c.in-Ok.key c.requires.stored.lies c.in-Ok.ensures.ok.kept c.release_triple-in-Err-raise.ensures.gone
-    (back _ c.intern_triple.new.pool _ _ c.intern_triple.new.region _ c.in-Ok.key c.args.texts.now c.in-Ok.ensures.ok c.release_triple-in-Err-raise.ensures.gone)
+keeps_after_fault g c = keeps_released _ c.intern_triple.new.pool _ _ c.intern_triple.new.region _ c.in-Ok.key c.requires.stored.lies c.in-Ok.ensures.ok.kept c.release_triple-in-Err-raise.ensures.gone (back_after_fault g c)
+
+pub returns-in-Err-raise-clause-stored : goal.returns-in-Err-raise-clause-stored
+returns-in-Err-raise-clause-stored g c = stored_same c.args.self.now _ c.args.region.now _ c.requires.stored c.in-Err-raise.ensures.err c.release_triple-in-Err-raise.ensures.lies (back_after_fault g c)
 
 pub returns-in-Err-raise-clause-err : goal.returns-in-Err-raise-clause-err
 returns-in-Err-raise-clause-err g c = counts_unmoved c.args.self.now _ c.args.region.now _ c.requires.stored (keeps_after_fault g c) c.in-Err-raise.ensures.err

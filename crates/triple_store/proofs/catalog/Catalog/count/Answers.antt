@@ -1,6 +1,6 @@
 -- A triple has the count of its key.
 use Rattle.std.proofs.Common.{ap, arith, subst, sym, ◌∙◌, unwrap_or}
-use Rattle.block_index.specs.Steps.{WithinSteps}
+use Rattle.comparison_steps.specs.Steps.{WithinSteps}
 use Rattle.triple_store.proofs.Live.{count_image, image_absent}
 use Rattle.triple_store.proofs.Storing.{live_stored}
 use Rattle.triple_store.proofs.Unchanged.{len_image}

@@ -4,10 +4,10 @@ use Rattle.std.proofs.Math.Seq.{take-length}
 use Rattle.std.proofs.lemmas.List.{length-append}
 use Rattle.rising.specs.Rising.{has}
 use Rattle.rising.proofs.Rising.{IsRising-sorted}
-use Rattle.slot_index.specs.Keys.{key_cmp, key_cmp-total}
+use Rattle.slot_keys.specs.KeyCounts.{counted_keys}
+use Rattle.slot_keys.specs.Keys.{key_cmp, key_cmp-total}
 use Rattle.triple_store.specs.Telling.{if_told}
 use Rattle.triple_store.proofs.Again.{again}
-use Rattle.triple_store.specs.Times.{counted_keys}
 use Rattle.triple_store.proofs.Afterwards.{stays_among}
 use Rattle.triple_store.proofs.Along.{along_then, met_stored}
 use Rattle.triple_store.proofs.Costs.{at_most, came_and_went, counted, told_between, told_fewer}
@@ -166,6 +166,31 @@ returns-in-Err-change_if-clause-keeps g c = keeps _ _ _ _ c.args.swap.left.keys.
 
 pub returns-in-Err-change_if-clause-again : goal.returns-in-Err-change_if-clause-again
 returns-in-Err-change_if-clause-again g c = again _ _ _ _ c.args.swap.left.keys.rising.now _ _ c.take_in-taken.ensures.takes _ _ _ c.remove_beside-in-Err-change_if.ensures.removes
+
+-- what lies beside the terms stays, and so does the limit
+pub returns-in-Err-clause-beside : goal.returns-in-Err-clause-beside
+returns-in-Err-clause-beside g c piece = c.remove_beside.ensures.removes.beside piece ∙ c.take_in-taken.ensures.takes.beside piece
+
+pub returns-in-Err-clause-limit : goal.returns-in-Err-clause-limit
+returns-in-Err-clause-limit g c = c.remove_beside.ensures.removes.limit ∙ c.take_in-taken.ensures.takes.limit
+
+pub returns-in_default-keys_beside-clause-beside : goal.returns-in_default-keys_beside-clause-beside
+returns-in_default-keys_beside-clause-beside g c piece = c.remove_beside-in_default-keys_beside.ensures.removes.beside piece ∙ c.take_in-taken.ensures.takes.beside piece
+
+pub returns-in_default-keys_beside-clause-limit : goal.returns-in_default-keys_beside-clause-limit
+returns-in_default-keys_beside-clause-limit g c = c.remove_beside-in_default-keys_beside.ensures.removes.limit ∙ c.take_in-taken.ensures.takes.limit
+
+pub returns-in-Ok-change_if-clause-beside : goal.returns-in-Ok-change_if-clause-beside
+returns-in-Ok-change_if-clause-beside g c piece = c.remove_beside-in-Ok-change_if.ensures.removes.beside piece ∙ c.take_in-taken.ensures.takes.beside piece
+
+pub returns-in-Ok-change_if-clause-limit : goal.returns-in-Ok-change_if-clause-limit
+returns-in-Ok-change_if-clause-limit g c = c.remove_beside-in-Ok-change_if.ensures.removes.limit ∙ c.take_in-taken.ensures.takes.limit
+
+pub returns-in-Err-change_if-clause-beside : goal.returns-in-Err-change_if-clause-beside
+returns-in-Err-change_if-clause-beside g c piece = c.remove_beside-in-Err-change_if.ensures.removes.beside piece ∙ c.take_in-taken.ensures.takes.beside piece
+
+pub returns-in-Err-change_if-clause-limit : goal.returns-in-Err-change_if-clause-limit
+returns-in-Err-change_if-clause-limit g c = c.remove_beside-in-Err-change_if.ensures.removes.limit ∙ c.take_in-taken.ensures.takes.limit
 
 -- the costs
 pub returns-in-Err-clause-cost : goal.returns-in-Err-clause-cost

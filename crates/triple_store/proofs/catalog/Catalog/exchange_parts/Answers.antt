@@ -1,11 +1,11 @@
 -- The keys that are left stay, and what comes is taken in beside them.
 use Rattle.std.proofs.Common.{◌<◌, length, ap, refl, sym, ◌∙◌}
 use Rattle.std.proofs.lemmas.List.{length-map}
-use Rattle.triple_store.specs.Times.{MovesKeys, count_beside, counted_keys}
+use Rattle.slot_keys.specs.KeyCounts.{MovesKeys, count_beside, counted_keys}
+use Rattle.slot_keys.proofs.Staying.{moves_beside}
 use Rattle.triple_store.proofs.Afterwards.{new_keys, parts_done, parts_full}
 use Rattle.triple_store.proofs.Multitude.{cost_of_all, stays_few}
 use Rattle.triple_store.proofs.Rooming.{same_fault}
-use Rattle.triple_store.proofs.Staying.{moves_beside}
 use Rattle.triple_store.proofs.catalog.Catalog.exchange_parts.Goals as goal
 
 pub times_after-times-requires-clause-rising : goal.times_after-times-requires-clause-rising

@@ -1,14 +1,14 @@
 -- No key stays, and what comes is all that the owner has.
 use Rattle.std.proofs.Common.{List, [], length, subst, sym, ap, ◌∙◌, arith}
 use Rattle.std.proofs.lemmas.List.{length-map, length-replicate}
-use Rattle.slot_index.specs.declared.key.Key.{Key}
+use Rattle.slot_keys.specs.declared.key.Key.{Key}
+use Rattle.slot_keys.specs.KeyCounts.{count_beside, counted_keys}
+use Rattle.slot_keys.proofs.Staying.{counted_zeros, none_beside, zero_counts}
 use Rattle.triple_store.specs.Parts.{StandFor}
-use Rattle.triple_store.specs.Times.{count_beside, counted_keys}
 use Rattle.triple_store.proofs.Afterwards.{times_by_keys}
 use Rattle.triple_store.proofs.Multitude.{cost_of_all}
 use Rattle.triple_store.proofs.Parts.{stand_nothing}
 use Rattle.triple_store.proofs.Rooming.{same_fault}
-use Rattle.triple_store.proofs.Staying.{counted_zeros, none_beside, zero_counts}
 use Rattle.triple_store.proofs.catalog.Catalog.exchange_timed.Goals as goal
 
 pub exchange_beside-requires-clause-as_many : goal.exchange_beside-requires-clause-as_many

@@ -1,6 +1,6 @@
 use Rattle.std.proofs.Common.{◌+◌, ◌≤◌, length, ap, arith}
 use Rattle.rising.proofs.Rising.{IsRising-sorted}
-use Rattle.slot_index.specs.Keys.{key_cmp, key_cmp-total}
+use Rattle.slot_keys.specs.Keys.{key_cmp, key_cmp-total}
 use Rattle.triple_store.specs.Telling.{if_told}
 use Rattle.triple_store.proofs.Costs.{at_most, came_and_went, counted, told_between, told_fewer}
 use Rattle.triple_store.proofs.Differing.{tells_if}

@@ -1,11 +1,11 @@
 use Rattle.std.proofs.Common.{◌≡◌, false, is_ok, ap, subst, sym, ◌∙◌}
 use Rattle.rising.proofs.Bools.{or_false}
 use Rattle.rising.proofs.Sorting.{found}
-use Rattle.slot_index.specs.declared.key.Key.{Key}
-use Rattle.slot_index.specs.Keys.{key_cmp-total}
-use Rattle.triple_store.specs.Added.{is_held}
+use Rattle.slot_keys.specs.declared.key.Key.{Key}
+use Rattle.slot_keys.specs.Added.{is_held}
+use Rattle.slot_keys.specs.Keys.{key_cmp-total}
+use Rattle.slot_keys.proofs.Lists.{or_left}
 use Rattle.triple_store.proofs.Standing.{one_of_texts}
-use Rattle.triple_store.proofs.Taking.{or_left}
 use Rattle.triple_store.proofs.catalog.Catalog.find_held.Goals as goal
 
 pub returns-in-Ok-binary_search-clause-held : goal.returns-in-Ok-binary_search-clause-held

@@ -1,9 +1,8 @@
 -- In the order of the ranks the triples are in order.
 use Rattle.std.proofs.Common.{◌≡◌, subst}
-use Rattle.std.specs.Prelude.{IfSome}
-use Rattle.std.specs.Prelude.{map as mapped}
+use Rattle.std.specs.Prelude.{IfSome, map as mapped}
 use Rattle.std.specs.List.{All}
-use Rattle.triple_store.specs.Ranks.{IsRanked, rank_key}
+use Rattle.slot_keys.specs.Ranks.{IsRanked, rank_key}
 use Rattle.triple_store.proofs.ByRank.{by_ranks, ranks_read, ranks_rise, texts_canonical}
 use Rattle.triple_store.proofs.catalog.Catalog.ranked.Goals as goal
 use Rattle.triple_store.proofs.catalog.Catalog.ranked.Goals.{After-drop-ranks-2}

@@ -1,7 +1,7 @@
 use Rattle.std.proofs.Common.{take}
 use Rattle.std.specs.FinMap as map
 use Rattle.rising.specs.Rising.{difference}
-use Rattle.slot_index.specs.Keys.{key_cmp}
+use Rattle.slot_keys.specs.Keys.{key_cmp}
 use Rattle.triple_store.specs.Costs.{Costs}
 use Rattle.triple_store.specs.Moves.{Removes}
 use Rattle.triple_store.proofs.catalog.Catalog.remove_beside.Given as goal

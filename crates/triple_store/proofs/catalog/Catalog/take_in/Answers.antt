@@ -1,7 +1,7 @@
 use Rattle.std.proofs.Common.{◌≡◌, ◌+◌, ◌<◌, arith, length, take, vec_len, refl, sym, ◌∙◌}
-use Rattle.triple_store.proofs.Adding.{held_with}
+use Rattle.slot_keys.proofs.Adding.{held_with}
+use Rattle.slot_keys.proofs.AtHand.{held_again, on_ok}
 use Rattle.triple_store.proofs.Along.{along_held, along_later, along_new}
-use Rattle.triple_store.proofs.AtHand.{held_again, on_ok}
 use Rattle.triple_store.proofs.Costs.{at_most, both}
 use Rattle.triple_store.proofs.Rooming.{same_fault}
 use Rattle.triple_store.proofs.Known.{known_text, last_added, last_found}

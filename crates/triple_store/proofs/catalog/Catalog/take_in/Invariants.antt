@@ -2,9 +2,9 @@ use Rattle.std.proofs.Common.{◌≡◌, ◌≤◌, length, take, ◌++◌, vec_
 use Rattle.std.specs.Prelude.{vec_capacity}
 use Rattle.std.specs.FinMap as map
 use Rattle.rising.specs.Rising.{has}
-use Rattle.slot_index.specs.declared.key.Key.{Key}
-use Rattle.slot_index.specs.Keys.{key_cmp}
-use Rattle.triple_store.specs.Added.{AreApart, is_held}
+use Rattle.slot_keys.specs.declared.key.Key.{Key}
+use Rattle.slot_keys.specs.Keys.{key_cmp}
+use Rattle.slot_keys.specs.Added.{AreApart, is_held}
 use Rattle.triple_store.specs.Costs.{Costs}
 use Rattle.triple_store.specs.Interning.{IsOfTripleBefore}
 use Rattle.triple_store.specs.Moves.{TakesIn, triples_at}

@@ -3,7 +3,7 @@ use Rattle.std.proofs.Common.{◌≡◌, Some}
 use Rattle.std.proofs.lemmas.List.Elements.{All-push}
 use Rattle.std.proofs.lemmas.List.Sorted.{All-permutation}
 use Rattle.term_pool.specs.Pool.{text_in_slot}
-use Rattle.triple_store.specs.declared.ranking.SlotText.{SlotText}
+use Rattle.slot_keys.specs.declared.ranking.SlotText.{SlotText}
 use Rattle.triple_store.proofs.catalog.Catalog.terms_by_text.Goals as goal
 
 pub loop-slot-preserved : goal.loop-slot-preserved

@@ -1,0 +1,10 @@
+pub mod Adding
+pub mod AtHand
+pub mod Imaged
+pub mod KeyTimes
+pub mod Keyed
+pub mod Lists
+pub mod Marked
+pub mod Placing
+pub mod Searching
+pub mod Staying

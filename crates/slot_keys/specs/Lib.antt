@@ -1,0 +1,5 @@
+pub mod Added
+pub mod KeyCounts
+pub mod Keys
+pub mod Marks
+pub mod Ranks

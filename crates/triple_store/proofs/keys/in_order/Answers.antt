@@ -1,8 +1,0 @@
-use Rattle.std.proofs.Common.{subst, sym, ◌∙◌}
-use Rattle.rising.specs.Rising.{IsRising}
-use Rattle.rising.proofs.Rising.{IsRising-sorted}
-use Rattle.slot_index.specs.Keys.{key_cmp, key_cmp-total}
-use Rattle.triple_store.proofs.keys.in_order.Goals as goal
-
-pub walk_of-requires : goal.walk_of-requires
-walk_of-requires c = subst (IsRising key_cmp) (sym (c.as_slice-3.ensures.value ∙ c.in-Ok.ensures)) (IsRising-sorted key_cmp-total c.as_slice.result.now)

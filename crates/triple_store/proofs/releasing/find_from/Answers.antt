@@ -1,6 +1,0 @@
-use Rattle.rising.proofs.Sorting.{found}
-use Rattle.slot_index.specs.Keys.{key_cmp-total}
-use Rattle.triple_store.proofs.releasing.find_from.Goals as goal
-
-pub returns-clause-there : goal.returns-clause-there
-returns-clause-there c = found key_cmp-total c.args.keys.now c.args.key c.binary_search.result c.requires c.binary_search.ensures.bound c.binary_search.ensures.position

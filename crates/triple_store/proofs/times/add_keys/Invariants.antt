@@ -1,7 +1,0 @@
--- The keys so far.
-use Rattle.std.proofs.Common.{take}
-use Rattle.triple_store.specs.Times.{AddKeys}
-use Rattle.triple_store.proofs.times.add_keys.Given as goal
-
-abbrev pub invariant-loop-place : goal.invariant-loop-place
-invariant-loop-place l = AddKeys l.keys.rising.now l.fn.counts.items l.counts.items (take l.place l.met)
