@@ -10,7 +10,7 @@ ghost use Rattle.world.specs.Routed.{routed_by, routed_page};
 ghost use Rattle.world.specs.WorldState.{AreHolders, played_of, by_two_after, stored_in};
 
 use crate::applied::{Effect, Handling, Outcome, RoutedPage};
-use crate::fetching::{FetchedPage, Reply};
+use crate::fetching::{FetchedPage, Page, Reply};
 use crate::holdings::Holdings;
 use entity_model::Event;
 use side_output::{Entry, Side};
@@ -48,6 +48,7 @@ impl Holdings {
     {
         let after = self.standing(event.entity).after(&event);
         if side.make_room().is_err() {
+            drop(reply);
             return Err(StoreFault::OutOfMemory);
         }
         match reply {
@@ -57,7 +58,10 @@ impl Holdings {
                     change,
                     routed: routed(page),
                 }),
-                Err(refused) => Err(refused),
+                Err(refused) => {
+                    drop(page);
+                    Err(refused)
+                }
             },
             Some(Err(cause)) => match self.keep(event.entity, after) {
                 Ok(()) => {
@@ -83,13 +87,24 @@ fn routed(page: FetchedPage) -> Option<RoutedPage>
     ensures { result ≡ routed_page page }
 {
     match page {
-        FetchedPage::Whole(page) => {
-            let graph = page.graph?;
-            Some(RoutedPage {
+        FetchedPage::Whole(
+            Page {
+                bytes,
+                triples,
                 graph,
-                triples: page.triples,
-            })
+                counts: _,
+            },
+        ) => {
+            drop(bytes);
+            let Some(graph) = graph else {
+                drop(triples);
+                return None;
+            };
+            Some(RoutedPage { graph, triples })
         }
-        FetchedPage::Changed(_) => None,
+        FetchedPage::Changed(page) => {
+            drop(page);
+            None
+        }
     }
 }

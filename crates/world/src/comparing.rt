@@ -52,8 +52,24 @@ pub fn changed_texts(
     ensures { IfSome result (λ texts. (old : TheEntity) → document_of wanted.id known.entry.bytes.now ≡ Some (AnEntity old) → known.entry.counts ≡ counts_of old →
         AreChanged wanted.version wanted.id known.entry.rev wanted.rev old bytes.now texts) }
 {
-    let changed = read_changed(alloc, wanted.id, known.bytes, bytes)?;
-    texts_of(alloc, wanted, known, &changed)
+    match read_changed(alloc, wanted.id, known.bytes, bytes) {
+        Some(changed) => texts_once(alloc, wanted, known, changed),
+        None => None,
+    }
+}
+
+// The same of parts that aren't needed any more.
+fn texts_once(
+    alloc: Global,
+    wanted: Wanted,
+    known: KnownPage<'_>,
+    changed: Changed<'_>,
+) -> Option<ChangedTexts>
+    ensures { IfSome result (AreTextsOfParts wanted.version wanted.id known.entry.rev wanted.rev known.entry.counts changed.entry) }
+{
+    let texts = texts_of(alloc, wanted, known, &changed);
+    drop(changed);
+    texts
 }
 
 // The triples of the parts that are gone and of those that came.
@@ -72,8 +88,13 @@ fn texts_of(
         rev: known.rev,
         version: wanted.version,
     };
-    let gone = part_texts(alloc, before, known.counts, &changed.gone).ok()?;
-    let come = part_texts(alloc, wanted, counts, &changed.come).ok()?;
+    let Ok(gone) = part_texts(alloc, before, known.counts, &changed.gone) else {
+        return None;
+    };
+    let Ok(come) = part_texts(alloc, wanted, counts, &changed.come) else {
+        drop(gone);
+        return None;
+    };
     Some(ChangedTexts { gone, come, counts })
 }
 

@@ -209,8 +209,14 @@ pub fn texts_in(
 {
     match document(alloc, wanted.id, bytes) {
         Ok(document) => match map_document(alloc, wanted, &document, routes) {
-            Ok(mapped) => Ok(mapped),
-            Err(OutOfMemory) => Err(DocumentFault::OutOfMemory),
+            Ok(mapped) => {
+                drop(document);
+                Ok(mapped)
+            }
+            Err(OutOfMemory) => {
+                drop(document);
+                Err(DocumentFault::OutOfMemory)
+            }
         },
         Err(fault) => Err(fault),
     }

@@ -55,6 +55,7 @@ impl Holdings {
             return Err(StoreFault::OutOfMemory);
         };
         let Ok(added) = self.holders.add(id, version) else {
+            drop(triples);
             return Err(StoreFault::OutOfMemory);
         };
         match self
@@ -67,6 +68,7 @@ impl Holdings {
                 Ok(Remapped { change, triples })
             }
             Err(refused) => {
+                drop(triples);
                 self.holders.take_back(id, version, added);
                 Err(refused)
             }

@@ -204,13 +204,21 @@ impl Holdings {
             version: wanted.version,
             telling: Telling::Nothing,
         };
-        match self.hold(wanted.id, there, &FetchedPage::Whole(page), how) {
+        let page = FetchedPage::Whole(page);
+        match self.hold(wanted.id, there, &page, how) {
             Ok(_) => {
+                drop(page);
                 self.set_standing(wanted.id, after);
                 Ok(())
             }
-            Err(StoreFault::Full) => Err(RestoreFault::Full),
-            Err(StoreFault::OutOfMemory) => Err(RestoreFault::OutOfMemory),
+            Err(StoreFault::Full) => {
+                drop(page);
+                Err(RestoreFault::Full)
+            }
+            Err(StoreFault::OutOfMemory) => {
+                drop(page);
+                Err(RestoreFault::OutOfMemory)
+            }
         }
     }
 }

@@ -13,7 +13,7 @@ use Rattle.world.specs.Fetched.{bytes_of}
 use Rattle.world.specs.Meaning.{meaning}
 use Rattle.world.specs.Swapped.{HasSwapped, wanted_meaning}
 use Rattle.triple_store.specs.declared.telling.Telling.{Telling}
-use Rattle.world.proofs.ByVersion.{moves, undone}
+use Rattle.world.proofs.ByVersion.{moved_by_two, moves, undone}
 use Rattle.world.proofs.Changing.{step_tells}
 use Rattle.world.proofs.Moving.{are_stored, seen_again}
 use Rattle.world.proofs.Replacing.{placed_freed}
@@ -64,6 +64,12 @@ exchange_page-requires-clause-may_swap c =
     c.self.invariant c.place.ensures.kept c.place.ensures.counts c.new-setting.ensures.wanted
     (rw c.make_room.ensures.records at c.had.ensures.keys) (rw c.make_room.ensures.records at c.had.ensures.times) (rw (← c.self.view_is) at c.requires)
 
+pub invariant_of-self : goal.invariant_of-self
+invariant_of-self c = rw c.make_room.ensures.records c.self.invariant
+
+pub invariant_of-self-in_default : goal.invariant_of-self-in_default
+invariant_of-self-in_default c = rw c.in_default.ensures.err (rw c.make_room.ensures.records c.self.invariant)
+
 pub invariant_of-self-in_default-place : goal.invariant_of-self-in_default-place
 invariant_of-self-in_default-place c = (let in_step : AreInStep c.place.new.self c.take_back.new.self c.make_room.new.table.records =
     subst (λ (i : ByVersion). AreInStep c.place.new.self i c.make_room.new.table.records) (sym (undone c.self.inside.holders c.add.new.self c.take_back.new.self c.self.inside.table.records c.args.id c.args.how.version c.in-Ok.added c.self.invariant.by c.in-Ok.ensures.ok c.in-Ok.ensures.added c.take_back.ensures))
@@ -113,6 +119,11 @@ returns-in-Ok-exchange_page-clause-ok c = rw (← c.self.view_is, ← c.make_roo
     ∙ page_seen c.self.inside.store c.self.inside.holders c.make_room.new.table.records c.args.id (rw c.make_room.ensures.records c.self.invariant) c.place.new.self c.exchange_page.new.store c.replace.new.store
     c.args.after.state c.args.after.reconciled c.args.after.state.rev (record { piece = c.in-Ok-place.piece; keys = c.in-Ok-exchange_page.field-0.keys; times = c.in-Ok-exchange_page.field-0.times }) (bytes_of c.args.page.now) (meaning c.args.how.version c.args.id c.args.after.state.rev (bytes_of c.args.page.now)) c.had.result.keys.rising.now c.args.how.version
     (rw c.bytes.ensures at c.in-Ok-place.ensures.ok) c.place.ensures.kept c.place.ensures.counts c.exchange_page.ensures.rest.keeps c.exchange_page.ensures.rest.beside c.replace.ensures.counts c.replace.ensures.kept c.replace.ensures.freed)
+
+pub returns-in-Ok-exchange_page-clause-by_two : goal.returns-in-Ok-exchange_page-clause-by_two
+returns-in-Ok-exchange_page-clause-by_two c = rw (← c.self.view_is)
+    (ap (λ (ids : ByVersion). ids.by_two) (moves c.self.inside.holders c.add.new.self c.remove.new.self c.args.id c.args.how.version c.other.result c.in-Ok.ensures.ok c.other.ensures c.remove.ensures)
+    ∙ moved_by_two c.self.inside.holders c.args.id c.args.how.version)
 
 pub returns-in-Ok-exchange_page-clause-within : goal.returns-in-Ok-exchange_page-clause-within
 returns-in-Ok-exchange_page-clause-within c = rw (← c.self.view_is, ← c.make_room.ensures.records)

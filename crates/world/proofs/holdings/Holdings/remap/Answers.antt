@@ -14,12 +14,27 @@ use Rattle.world.specs.Holders.{ByVersion}
 use Rattle.world.specs.InStep.{AreInStep}
 use Rattle.world.specs.Keeping.{seen}
 use Rattle.world.specs.Meaning.{meaning}
-use Rattle.world.proofs.ByVersion.{moves, undone}
+use Rattle.world.proofs.ByVersion.{moved_by_two, moves, undone}
 use Rattle.world.proofs.Changing.{step_tells}
 use Rattle.world.proofs.Moving.{are_stored, held_is, seen_again}
 use Rattle.world.proofs.Rooming.{countable_kept, room_is}
 use Rattle.world.proofs.Stepping.{again_seen, again_step, are_holders, has_room, links, refused_step}
+use Rattle.world.proofs.holdings.Holdings.remap.Goals.{After-remove, After-take_back}
 use Rattle.world.proofs.holdings.Holdings.remap.Goals as goal
+
+after : (c : After-remove) → AreInStep c.exchange_with.new.self c.remove.new.self c.set_keys.new.table.records
+after c =
+    rw c.set_keys.ensures
+    (again_step c.self.inside.store c.self.inside.holders c.self.inside.table.records c.args.id c.self.invariant c.exchange_with.new.self
+    c.in-Ok-exchange_with.field-0.keys c.args.version (sym (links c.self.inside.store c.self.inside.table.records c.args.id) ∙ (rw (← c.self.view_is) at c.requires)) c.exchange_with.ensures.rest.beside c.remove.new.self c.keys_of.result.rising.now c.in-Ok.triples
+    (moves c.self.inside.holders c.add.new.self c.remove.new.self c.args.id c.args.version c.other.result c.in-Ok-add.ensures.ok c.other.ensures c.remove.ensures)
+    c.exchange_with.ensures.rest.sound c.keys_of.ensures c.in-Ok-exchange_with.ensures.exchanged.ok c.exchange_with.ensures.rest.keeps c.in-Ok-exchange_with.ensures.exchanged.keys
+    (λ t. sym (has-sorted triple_cmp-total t c.in-Ok.triples) ∙ ap (has triple_cmp t) c.in-Ok.ensures.value))
+
+refused : (c : After-take_back) → AreInStep c.exchange_with.new.self c.take_back.new.self c.self.inside.table.records
+refused c =
+    subst (λ (i : ByVersion). AreInStep c.exchange_with.new.self i c.self.inside.table.records) (sym (undone c.self.inside.holders c.add.new.self c.take_back.new.self c.self.inside.table.records c.args.id c.args.version c.in-Ok-add.added c.self.invariant.by c.in-Ok-add.ensures.ok c.in-Ok-add.ensures.added c.take_back.ensures)) (refused_step c.self.inside.store c.self.inside.holders c.self.inside.table.records c.self.invariant c.exchange_with.new.self
+    c.exchange_with.ensures.rest.sound c.in-Err.ensures.exchanged.err c.exchange_with.ensures.rest.keeps c.exchange_with.ensures.rest.beside)
 
 pub exchange_with-requires-clause-may_come : goal.exchange_with-requires-clause-may_come
 exchange_with-requires-clause-may_come c = record {
@@ -35,19 +50,14 @@ exchange_with-requires-clause-stored c = are_stored (meaning_by meaning c.self.i
 pub set_keys-requires : goal.set_keys-requires
 set_keys-requires c = sym (links c.self.inside.store c.self.inside.table.records c.args.id) ∙ (rw (← c.self.view_is) at c.requires)
 
-pub invariant_of-self-in-Ok-exchange_with : goal.invariant_of-self-in-Ok-exchange_with
-invariant_of-self-in-Ok-exchange_with c = (let in_step : AreInStep c.exchange_with.new.self c.remove.new.self c.set_keys.new.table.records =
-    rw c.set_keys.ensures
-    (again_step c.self.inside.store c.self.inside.holders c.self.inside.table.records c.args.id c.self.invariant c.exchange_with.new.self
-    c.in-Ok-exchange_with.field-0.keys c.args.version (sym (links c.self.inside.store c.self.inside.table.records c.args.id) ∙ (rw (← c.self.view_is) at c.requires)) c.exchange_with.ensures.rest.beside c.remove.new.self c.keys_of.result.rising.now c.in-Ok.triples
-    (moves c.self.inside.holders c.add.new.self c.remove.new.self c.args.id c.args.version c.other.result c.in-Ok-add.ensures.ok c.other.ensures c.remove.ensures)
-    c.exchange_with.ensures.rest.sound c.keys_of.ensures c.in-Ok-exchange_with.ensures.exchanged.ok c.exchange_with.ensures.rest.keeps c.in-Ok-exchange_with.ensures.exchanged.keys
-    (λ t. sym (has-sorted triple_cmp-total t c.in-Ok.triples) ∙ ap (has triple_cmp t) c.in-Ok.ensures.value)) in in_step)
+pub invariant_of-self : goal.invariant_of-self
+invariant_of-self c = rw c.in_default-add.ensures.err c.self.invariant
 
-pub invariant_of-self-in-Err-exchange_with : goal.invariant_of-self-in-Err-exchange_with
-invariant_of-self-in-Err-exchange_with c =
-    subst (λ (i : ByVersion). AreInStep c.exchange_with.new.self i c.self.inside.table.records) (sym (undone c.self.inside.holders c.add.new.self c.take_back.new.self c.self.inside.table.records c.args.id c.args.version c.in-Ok-add.added c.self.invariant.by c.in-Ok-add.ensures.ok c.in-Ok-add.ensures.added c.take_back.ensures)) (refused_step c.self.inside.store c.self.inside.holders c.self.inside.table.records c.self.invariant c.exchange_with.new.self
-    c.exchange_with.ensures.rest.sound c.in-Err.ensures.exchanged.err c.exchange_with.ensures.rest.keeps c.exchange_with.ensures.rest.beside)
+pub invariant_of-self-in-Ok-exchange_with : goal.invariant_of-self-in-Ok-exchange_with
+invariant_of-self-in-Ok-exchange_with c = after c
+
+pub invariant_of-self-in-Err : goal.invariant_of-self-in-Err
+invariant_of-self-in-Err c = refused c
 
 pub returns-in_default-clause-held : goal.returns-in_default-clause-held
 returns-in_default-clause-held c = rw (← c.self.view_is) (has_room _ _ _ c.self.invariant)
@@ -66,6 +76,11 @@ returns-in-Ok-exchange_with-clause-records c = rw (← c.self.view_is) (ap (seen
     ∙ again_seen c.self.inside.store c.self.inside.holders c.self.inside.table.records c.args.id c.self.invariant c.exchange_with.new.self
     c.in-Ok-exchange_with.field-0.keys c.args.version (sym (links c.self.inside.store c.self.inside.table.records c.args.id) ∙ (rw (← c.self.view_is) at c.requires)) c.exchange_with.ensures.rest.beside)
 
+pub returns-in-Ok-exchange_with-clause-by_two : goal.returns-in-Ok-exchange_with-clause-by_two
+returns-in-Ok-exchange_with-clause-by_two c = rw (← c.self.view_is)
+    (ap (λ (ids : ByVersion). ids.by_two) (moves c.self.inside.holders c.add.new.self c.remove.new.self c.args.id c.args.version c.other.result c.in-Ok-add.ensures.ok c.other.ensures c.remove.ensures)
+    ∙ moved_by_two c.self.inside.holders c.args.id c.args.version)
+
 pub returns-in-Ok-exchange_with-clause-within : goal.returns-in-Ok-exchange_with-clause-within
 returns-in-Ok-exchange_with-clause-within c = rw (← c.self.view_is)
     (subst (λ n. n ≤ limit_of c.self.inside.store) (room_is (meaning_by meaning c.self.inside.holders.by_two) c.self.inside.store c.self.inside.table.records c.self.invariant.kept _ refl c.in-Ok.triples _
@@ -74,32 +89,14 @@ returns-in-Ok-exchange_with-clause-within c = rw (← c.self.view_is)
 
 pub returns-in-Ok-exchange_with-clause-change : goal.returns-in-Ok-exchange_with-clause-change
 returns-in-Ok-exchange_with-clause-change c = rw (← c.self.view_is)
-    (step_tells c.self.inside.store c.exchange_with.new.self c.self.inside.holders c.remove.new.self c.self.inside.table.records c.set_keys.new.table.records c.self.invariant (let in_step : AreInStep c.exchange_with.new.self c.remove.new.self c.set_keys.new.table.records =
-    rw c.set_keys.ensures
-    (again_step c.self.inside.store c.self.inside.holders c.self.inside.table.records c.args.id c.self.invariant c.exchange_with.new.self
-    c.in-Ok-exchange_with.field-0.keys c.args.version (sym (links c.self.inside.store c.self.inside.table.records c.args.id) ∙ (rw (← c.self.view_is) at c.requires)) c.exchange_with.ensures.rest.beside c.remove.new.self c.keys_of.result.rising.now c.in-Ok.triples
-    (moves c.self.inside.holders c.add.new.self c.remove.new.self c.args.id c.args.version c.other.result c.in-Ok-add.ensures.ok c.other.ensures c.remove.ensures)
-    c.exchange_with.ensures.rest.sound c.keys_of.ensures c.in-Ok-exchange_with.ensures.exchanged.ok c.exchange_with.ensures.rest.keeps c.in-Ok-exchange_with.ensures.exchanged.keys
-    (λ t. sym (has-sorted triple_cmp-total t c.in-Ok.triples) ∙ ap (has triple_cmp t) c.in-Ok.ensures.value)) in in_step)
+    (step_tells c.self.inside.store c.exchange_with.new.self c.self.inside.holders c.remove.new.self c.self.inside.table.records c.set_keys.new.table.records c.self.invariant (after c)
     (counts_in c.self.inside.store) (counts_in c.exchange_with.new.self) refl refl c.args.telling c.in-Ok-exchange_with.field-0.change c.in-Ok-exchange_with.ensures.exchanged.told)
 
 pub returns-in-Ok-exchange_with-clause-held : goal.returns-in-Ok-exchange_with-clause-held
-returns-in-Ok-exchange_with-clause-held c = has_room _ _ _ (let in_step : AreInStep c.exchange_with.new.self c.remove.new.self c.set_keys.new.table.records =
-    rw c.set_keys.ensures
-    (again_step c.self.inside.store c.self.inside.holders c.self.inside.table.records c.args.id c.self.invariant c.exchange_with.new.self
-    c.in-Ok-exchange_with.field-0.keys c.args.version (sym (links c.self.inside.store c.self.inside.table.records c.args.id) ∙ (rw (← c.self.view_is) at c.requires)) c.exchange_with.ensures.rest.beside c.remove.new.self c.keys_of.result.rising.now c.in-Ok.triples
-    (moves c.self.inside.holders c.add.new.self c.remove.new.self c.args.id c.args.version c.other.result c.in-Ok-add.ensures.ok c.other.ensures c.remove.ensures)
-    c.exchange_with.ensures.rest.sound c.keys_of.ensures c.in-Ok-exchange_with.ensures.exchanged.ok c.exchange_with.ensures.rest.keeps c.in-Ok-exchange_with.ensures.exchanged.keys
-    (λ t. sym (has-sorted triple_cmp-total t c.in-Ok.triples) ∙ ap (has triple_cmp t) c.in-Ok.ensures.value)) in in_step)
+returns-in-Ok-exchange_with-clause-held c = has_room _ _ _ (after c)
 
 pub returns-in-Ok-exchange_with-clause-holders : goal.returns-in-Ok-exchange_with-clause-holders
-returns-in-Ok-exchange_with-clause-holders c = are_holders _ _ _ (let in_step : AreInStep c.exchange_with.new.self c.remove.new.self c.set_keys.new.table.records =
-    rw c.set_keys.ensures
-    (again_step c.self.inside.store c.self.inside.holders c.self.inside.table.records c.args.id c.self.invariant c.exchange_with.new.self
-    c.in-Ok-exchange_with.field-0.keys c.args.version (sym (links c.self.inside.store c.self.inside.table.records c.args.id) ∙ (rw (← c.self.view_is) at c.requires)) c.exchange_with.ensures.rest.beside c.remove.new.self c.keys_of.result.rising.now c.in-Ok.triples
-    (moves c.self.inside.holders c.add.new.self c.remove.new.self c.args.id c.args.version c.other.result c.in-Ok-add.ensures.ok c.other.ensures c.remove.ensures)
-    c.exchange_with.ensures.rest.sound c.keys_of.ensures c.in-Ok-exchange_with.ensures.exchanged.ok c.exchange_with.ensures.rest.keeps c.in-Ok-exchange_with.ensures.exchanged.keys
-    (λ t. sym (has-sorted triple_cmp-total t c.in-Ok.triples) ∙ ap (has triple_cmp t) c.in-Ok.ensures.value)) in in_step)
+returns-in-Ok-exchange_with-clause-holders c = are_holders _ _ _ (after c)
 
 pub returns-in-Err-clause-err : goal.returns-in-Err-clause-err
 returns-in-Err-clause-err c = rw (← c.self.view_is) (λ i. record {
@@ -107,6 +104,9 @@ returns-in-Err-clause-err c = rw (← c.self.view_is) (λ i. record {
   limit = c.exchange_with.ensures.rest.limit i;
   by_two = ap (λ (ids : ByVersion). ids.by_two) (undone c.self.inside.holders c.add.new.self c.take_back.new.self c.self.inside.table.records c.args.id c.args.version c.in-Ok-add.added c.self.invariant.by c.in-Ok-add.ensures.ok c.in-Ok-add.ensures.added c.take_back.ensures) i;
 })
+
+pub returns-in-Err-clause-records : goal.returns-in-Err-clause-records
+returns-in-Err-clause-records c = rw (← c.self.view_is) (seen_again (beside c.self.inside.store) (beside c.exchange_with.new.self) c.self.inside.table.records c.exchange_with.ensures.rest.beside)
 
 pub returns-in-Err-clause-full : goal.returns-in-Err-clause-full
 returns-in-Err-clause-full c = rw (← c.self.view_is) (λ is.
@@ -116,14 +116,10 @@ returns-in-Err-clause-full c = rw (← c.self.view_is) (λ is.
     ∙ ap (λ (h : Option (Held Bytes)). has triple_cmp t (triples_held (meaning c.args.version) c.args.id h)) (sym (held_is c.self.inside.store c.self.inside.table.records c.args.id)))) (c.in-Err.ensures.exchanged.full (ap (λ fault. Err fault) same)))
 
 pub returns-in-Err-clause-held : goal.returns-in-Err-clause-held
-returns-in-Err-clause-held c = has_room _ _ _ (let in_step : AreInStep c.exchange_with.new.self c.take_back.new.self c.self.inside.table.records =
-    subst (λ (i : ByVersion). AreInStep c.exchange_with.new.self i c.self.inside.table.records) (sym (undone c.self.inside.holders c.add.new.self c.take_back.new.self c.self.inside.table.records c.args.id c.args.version c.in-Ok-add.added c.self.invariant.by c.in-Ok-add.ensures.ok c.in-Ok-add.ensures.added c.take_back.ensures)) (refused_step c.self.inside.store c.self.inside.holders c.self.inside.table.records c.self.invariant c.exchange_with.new.self
-    c.exchange_with.ensures.rest.sound c.in-Err.ensures.exchanged.err c.exchange_with.ensures.rest.keeps c.exchange_with.ensures.rest.beside) in in_step)
+returns-in-Err-clause-held c = has_room _ _ _ (refused c)
 
 pub returns-in-Err-clause-holders : goal.returns-in-Err-clause-holders
-returns-in-Err-clause-holders c = are_holders _ _ _ (let in_step : AreInStep c.exchange_with.new.self c.take_back.new.self c.self.inside.table.records =
-    subst (λ (i : ByVersion). AreInStep c.exchange_with.new.self i c.self.inside.table.records) (sym (undone c.self.inside.holders c.add.new.self c.take_back.new.self c.self.inside.table.records c.args.id c.args.version c.in-Ok-add.added c.self.invariant.by c.in-Ok-add.ensures.ok c.in-Ok-add.ensures.added c.take_back.ensures)) (refused_step c.self.inside.store c.self.inside.holders c.self.inside.table.records c.self.invariant c.exchange_with.new.self
-    c.exchange_with.ensures.rest.sound c.in-Err.ensures.exchanged.err c.exchange_with.ensures.rest.keeps c.exchange_with.ensures.rest.beside) in in_step)
+returns-in-Err-clause-holders c = are_holders _ _ _ (refused c)
 
 pub returns-in-Ok-exchange_with-clause-triples : goal.returns-in-Ok-exchange_with-clause-triples
 returns-in-Ok-exchange_with-clause-triples c = rw (← c.self.view_is) (record {
