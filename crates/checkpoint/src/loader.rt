@@ -85,7 +85,10 @@ impl Loader {
                 self.stage = Stage::Ended(numbers);
                 Ok(())
             }
-            _ => Err(LoadFault::BadLine(number)),
+            (_, line) => {
+                drop(line);
+                Err(LoadFault::BadLine(number))
+            }
         }
     }
 

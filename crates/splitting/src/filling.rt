@@ -133,7 +133,11 @@ fn route_page(
     ensures within { IfOk result (λ page. page.graph ≤ length routes.now) }
 {
     match document(setting.alloc, id, bytes) {
-        Ok(document) => route_document(setting, routes, id, revision, &document),
+        Ok(document) => {
+            let page = route_document(setting, routes, id, revision, &document);
+            drop(document);
+            page
+        }
         Err(DocumentFault::Unfit(_)) => unreachable!(),
         Err(DocumentFault::OutOfMemory) => Err(OutOfMemory),
     }
@@ -155,6 +159,9 @@ fn route_document(
     ensures fit { IfOk result (λ page. AllByRecursion HasFitAndShortTerms page.triples) }
 {
     let triples = direct_texts(setting, id, revision, document)?;
-    let graph = route(setting.alloc, routes, document)?;
+    let Ok(graph) = route(setting.alloc, routes, document) else {
+        drop(triples);
+        return Err(OutOfMemory);
+    };
     Ok(RoutedPage { graph, triples })
 }

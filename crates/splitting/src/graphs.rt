@@ -87,6 +87,7 @@ impl Graphs {
             Follow self.old before → Follow self.new after }
     {
         let Some(split) = &mut self.split else {
+            drop(routed);
             return;
         };
         if apply(split, applied, routed).is_err() {
@@ -128,14 +129,22 @@ fn apply(
 {
     match applied.outcome {
         Outcome::Stored => match routed {
-            Some(page) => set(split, applied.event.entity, page.graph, &page.triples),
+            Some(page) => {
+                let placed = set(split, applied.event.entity, page.graph, &page.triples);
+                drop(page);
+                placed
+            }
             None => Ok(()),
         },
         Outcome::Dropped => {
+            drop(routed);
             split.clear(applied.event.entity);
             Ok(())
         }
-        Outcome::Same | Outcome::Sided(_) => Ok(()),
+        Outcome::Same | Outcome::Sided(_) => {
+            drop(routed);
+            Ok(())
+        }
     }
 }
 
