@@ -140,7 +140,10 @@ impl Context<'_> {
         ensures written { HasWrittenOn K.Sink out.old out.new }
     {
         match self.report {
-            Report::Answers => Ok(reported),
+            Report::Answers => {
+                drop(change);
+                Ok(reported)
+            }
             Report::Changes => print_step(self.alloc, reported, change, out),
         }
     }

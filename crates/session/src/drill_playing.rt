@@ -94,11 +94,18 @@ impl DrillRun {
         let list = deliveries(self.alloc, done + 1)?;
         for delivery in list.as_slice() {
             let incoming = Incoming { context, delivery };
-            match deliver(&incoming, &mut self.pages, out, world, &mut None) {
+            let mut graphs = None;
+            let delivered = deliver(&incoming, &mut self.pages, out, world, &mut graphs);
+            drop(graphs);
+            match delivered {
                 Ok(done) => self.counts.add(done.answer),
-                Err(stop) => return Err(refused(stop)),
+                Err(stop) => {
+                    drop(list);
+                    return Err(refused(stop));
+                }
             }
         }
+        drop(list);
         Ok(())
     }
 

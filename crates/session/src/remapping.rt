@@ -66,6 +66,7 @@ pub fn take_mapping<K: Sink>(
                 ),
             ) => {
                 follow_remapping(graphs, entity, &triples);
+                drop(triples);
                 match context.tell(reported, change, out) {
                     Ok(now) => reported = now,
                     Err(why) => return Err(Halt::Unprinted(why)),

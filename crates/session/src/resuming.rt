@@ -25,6 +25,7 @@ use rdf_term::OutOfMemory;
 use revisions::Revisions;
 use splitting::Graphs;
 use std::hash::RandomState;
+use std::mem;
 use words::ReplayOptions;
 use world::World;
 use wq_io::{Sink, Source};
@@ -198,7 +199,7 @@ fn put_in_place(loaded: Loaded, world: &mut World) -> Numbers
         world: restored,
         numbers,
     } = loaded;
-    *world = restored;
+    drop(mem::replace(world, restored));
     numbers
 }
 
@@ -221,9 +222,15 @@ fn load_start<S: Source>(
     match load_snapshot(keys, task, resumed) {
         Ok(loaded) => match graphs_of(keys, task, routes, &loaded.world) {
             Ok(graphs) => Ok(Start { loaded, graphs }),
-            Err(fault) => Err(fault),
+            Err(fault) => {
+                drop(loaded);
+                Err(fault)
+            }
         },
-        Err(fault) => Err(fault),
+        Err(fault) => {
+            drop(routes);
+            Err(fault)
+        }
     }
 }
 
@@ -242,6 +249,7 @@ fn graphs_of(
     ensures err { IfErr result (λ fault. (fault ≡ NoMemory) ⊎ ((fault ≡ BadLine 1) × (AllowsHorizon task.now.options.now world.now.replay.buffer.horizon → ⊥))) }
 {
     if !allows(task.options.horizon(), world.horizon()) {
+        drop(routes);
         return Err(LoadFault::BadLine(1));
     }
     let Some(routes) = routes else {

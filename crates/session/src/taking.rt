@@ -77,16 +77,17 @@ pub fn take_lines<S: Source, R: Revisions, K: Sink, F: Sink>(
             context,
             delivery: &delivery,
         };
-        let done = deliver(
+        let delivered = deliver(
             &incoming,
             &mut ports.revisions,
             &mut ports.out,
             world,
             graphs,
-        )?;
-        reported = done.reported;
+        );
         matched += matches_in(&delivery);
         drop(delivery); // its memory is free before the next line is read
+        let done = delivered?;
+        reported = done.reported;
     }
     Ok(LinesTaken { reported, matched })
 }

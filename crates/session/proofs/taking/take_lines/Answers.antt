@@ -36,8 +36,8 @@ returns-in_err-delivery-clause-err g c =
     rw (p.1, p.2) (line_stops _ _ _ _ _ _ c.loop-line.invariant.0 c.next.new.line.items c.next.new.self _ _ _ _ c.in-Some.number
     (record { first = line; total = c.in_ok-number.ensures.length; takes = bytes; goes = c.in_ok-number.ensures.goes_on; reads = c.next.ensures.reads }) number.0 refused)
 
-pub deliver-requires-clause-open : goal.deliver-requires-clause-open
-deliver-requires-clause-open g c = rest_open _ _ _ _ _ c.loop-line.invariant.0.at_rest
+pub deliver-delivered-requires-clause-open : goal.deliver-delivered-requires-clause-open
+deliver-delivered-requires-clause-open g c = rest_open _ _ _ _ _ c.loop-line.invariant.0.at_rest
 
 pub returns-in_err-done-clause-err : goal.returns-in_err-done-clause-err
 returns-in_err-done-clause-err g c =
@@ -47,7 +47,7 @@ returns-in_err-done-clause-err g c =
     let delivered = rw c.as_slice.ensures.value at c.in_ok-delivery.ensures.ok in
     let cuts = rw (c.loop-line.invariant.1.revisions.known, c.folder-folder.ensures, c.loop-line.invariant.2 ∙ c.requires.limit, c.loop-line.invariant.4) at c.in_err-done.ensures.err in
     rw (p.1, p.2) (delivery_stops _ _ _ _ _ _ c.loop-line.invariant.0 c.next.new.line.items c.next.new.self
-    (moment g.S.Source g.R.Revisions g.K.Sink g.F.Sink (record c.loop-line.ports { events = c.next.new.source; revisions = c.deliver.new.revisions; out = c.deliver.new.out }) c.deliver.new.world) c.in_ok-delivery.delivery
+    (moment g.S.Source g.R.Revisions g.K.Sink g.F.Sink (record c.loop-line.ports { events = c.next.new.source; revisions = c.deliver-delivered.new.revisions; out = c.deliver-delivered.new.out }) c.deliver-delivered.new.world) c.in_ok-delivery.delivery
     (record { first = line; total = c.in_ok-number.ensures.length; takes = bytes; goes = c.in_ok-number.ensures.goes_on; reads = c.next.ensures.reads }) delivered _ cuts)
 
 pub loop-line-preserved : goal.loop-line-preserved
@@ -58,19 +58,19 @@ loop-line-preserved g c =
     let delivered = rw c.as_slice.ensures.value at c.in_ok-delivery.ensures.ok in
     let takes = rw (c.loop-line.invariant.1.revisions.known, c.folder-folder.ensures, c.loop-line.invariant.2 ∙ c.requires.limit, c.loop-line.invariant.4) at c.in_ok-done.ensures.ok in (
       rw c.matches_in-matched.ensures (line_taken _ _ _ _ _ _ c.loop-line.invariant.0 c.next.new.line.items c.next.new.self
-          (moment g.S.Source g.R.Revisions g.K.Sink g.F.Sink (record c.loop-line.ports { events = c.next.new.source; revisions = c.deliver.new.revisions; out = c.deliver.new.out }) c.deliver.new.world) c.in_ok-delivery.delivery
+          (moment g.S.Source g.R.Revisions g.K.Sink g.F.Sink (record c.loop-line.ports { events = c.next.new.source; revisions = c.deliver-delivered.new.revisions; out = c.deliver-delivered.new.out }) c.deliver-delivered.new.world) c.in_ok-delivery.delivery
           (record { first = line; total = c.in_ok-number.ensures.length; takes = bytes; goes = c.in_ok-number.ensures.goes_on; reads = c.next.ensures.reads }) delivered _
           c.in_ok-number.ensures.later (sym number.1 ∙ number.0) c.in_ok-number.ensures.ended takes),
-      delivered_on g.S.Source g.R.Revisions g.K.Sink g.F.Sink _ c.loop-line.ports _ _ _ c.loop-line.invariant.1 c.next.ensures.later c.next.ensures.most c.deliver.ensures.source c.deliver.ensures.written,
-      c.deliver.ensures.limit ∙ c.loop-line.invariant.2,
-      (rw c.loop-line.invariant.2 at c.deliver.ensures.held) c.loop-line.invariant.3,
-      c.deliver.ensures.routes ∙ c.loop-line.invariant.4,
+      delivered_on g.S.Source g.R.Revisions g.K.Sink g.F.Sink _ c.loop-line.ports _ _ _ c.loop-line.invariant.1 c.next.ensures.later c.next.ensures.most c.deliver-delivered.ensures.source c.deliver-delivered.ensures.written,
+      c.deliver-delivered.ensures.limit ∙ c.loop-line.invariant.2,
+      (rw c.loop-line.invariant.2 at c.deliver-delivered.ensures.held) c.loop-line.invariant.3,
+      c.deliver-delivered.ensures.routes ∙ c.loop-line.invariant.4,
       c.in_ok-done.ensures.follow,
       c.loop-line.invariant.6,
     )
 
-pub deliver-requires-clause-number : goal.deliver-requires-clause-number
-deliver-requires-clause-number g c =
+pub deliver-delivered-requires-clause-number : goal.deliver-delivered-requires-clause-number
+deliver-delivered-requires-clause-number g c =
     numbers_left c.args.task.now.report c.args.task.now.numbers c.loop-line.reported c.loop-line.matched c.loop-line.lines c.requires.within.asks c.requires.within.matches c.loop-line.invariant.0.few c.loop-line.invariant.0.few_matched
     c.loop-line.invariant.0.sound c.loop-line.invariant.0.max (rw c.max_bytes.ensures.value at c.max_bytes.ensures.bounded)
 
@@ -101,7 +101,7 @@ pub returns-in_err-delivery-clause-further : goal.returns-in_err-delivery-clause
 returns-in_err-delivery-clause-further g c = read_on g.S.Source g.R.Revisions g.K.Sink g.F.Sink _ c.loop-line.ports _ c.loop-line.invariant.1 c.next.ensures.later c.next.ensures.most
 
 pub returns-in_err-done-clause-further : goal.returns-in_err-done-clause-further
-returns-in_err-done-clause-further g c = delivered_on g.S.Source g.R.Revisions g.K.Sink g.F.Sink _ c.loop-line.ports _ _ _ c.loop-line.invariant.1 c.next.ensures.later c.next.ensures.most c.deliver.ensures.source c.deliver.ensures.written
+returns-in_err-done-clause-further g c = delivered_on g.S.Source g.R.Revisions g.K.Sink g.F.Sink _ c.loop-line.ports _ _ _ c.loop-line.invariant.1 c.next.ensures.later c.next.ensures.most c.deliver-delivered.ensures.source c.deliver-delivered.ensures.written
 
 pub returns-in_err-done-clause-held : goal.returns-in_err-done-clause-held
-returns-in_err-done-clause-held g c = (rw c.loop-line.invariant.2 at c.deliver.ensures.held) c.loop-line.invariant.3
+returns-in_err-done-clause-held g c = (rw c.loop-line.invariant.2 at c.deliver-delivered.ensures.held) c.loop-line.invariant.3

@@ -27,8 +27,8 @@ loop-delivery-init g c = record {
   silent = λ i. output g.K.Sink c.args.out.now;
 }
 
-pub deliver-requires-clause-open : goal.deliver-requires-clause-open
-deliver-requires-clause-open g c = rest_open _ _ _ _ _ c.loop-delivery.invariant.taken.at_rest
+pub deliver-delivered-requires-clause-open : goal.deliver-delivered-requires-clause-open
+deliver-delivered-requires-clause-open g c = rest_open _ _ _ _ _ c.loop-delivery.invariant.taken.at_rest
 
 -- there are at most six deliveries of an item, and at most 200,000 items
 pub add-requires : goal.add-requires
@@ -51,7 +51,7 @@ refused-requires g c =
     let are : items ≡ item_deliveries (n + 1) = c.as_slice-delivery-items.ensures ∙ c.in_ok-list.ensures in
     let rest : drill (n + 1) ≡ (drill n ++ take i items) ++ d ∷ drop (suc i) items = cut n items i d are c.loop-delivery-test.true c.delivery-item.is in
     let all = next_of run.size n _ (drop (suc i) items) d (omega (arith, c.loop-delivery.invariant.size_is, c.requires.next)) rest in
-    (cut_off run _ all.0 d all.1 [] _ c.loop-delivery.world c.loop-delivery.invariant.taken c.deliver.new.revisions _ c.deliver.new.world (subst (λ k. IsSize k) (sym c.loop-delivery.invariant.size_is) c.requires.size) _ c.in-Err.ensures.err).refused
+    (cut_off run _ all.0 d all.1 [] _ c.loop-delivery.world c.loop-delivery.invariant.taken c.deliver-delivered.new.revisions _ c.deliver-delivered.new.world (subst (λ k. IsSize k) (sym c.loop-delivery.invariant.size_is) c.requires.size) _ c.in-Err.ensures.err).refused
 
 pub returns-in-Err-clause-part : goal.returns-in-Err-clause-part
 returns-in-Err-clause-part g c =
@@ -63,8 +63,8 @@ returns-in-Err-clause-part g c =
     let are : items ≡ item_deliveries (n + 1) = c.as_slice-delivery-items.ensures ∙ c.in_ok-list.ensures in
     let rest : drill (n + 1) ≡ (drill n ++ take i items) ++ d ∷ drop (suc i) items = cut n items i d are c.loop-delivery-test.true c.delivery-item.is in
     let all = next_of run.size n _ (drop (suc i) items) d (omega (arith, c.loop-delivery.invariant.size_is, c.requires.next)) rest in
-    let halted = cut_off run _ all.0 d all.1 [] _ c.loop-delivery.world c.loop-delivery.invariant.taken c.deliver.new.revisions _ c.deliver.new.world (subst (λ k. IsSize k) (sym c.loop-delivery.invariant.size_is) c.requires.size) _ c.in-Err.ensures.err in
-    subst (λ k. IsPartOf k (drill (n + 1)) c.deliver.new.world.replay) c.loop-delivery.invariant.size_is (halted_in run.size _ (drop (suc i) items) (drill (n + 1)) d _ c.deliver.new.world rest halted)
+    let halted = cut_off run _ all.0 d all.1 [] _ c.loop-delivery.world c.loop-delivery.invariant.taken c.deliver-delivered.new.revisions _ c.deliver-delivered.new.world (subst (λ k. IsSize k) (sym c.loop-delivery.invariant.size_is) c.requires.size) _ c.in-Err.ensures.err in
+    subst (λ k. IsPartOf k (drill (n + 1)) c.deliver-delivered.new.world.replay) c.loop-delivery.invariant.size_is (halted_in run.size _ (drop (suc i) items) (drill (n + 1)) d _ c.deliver-delivered.new.world rest halted)
 
 pub returns-in-Err-clause-left : goal.returns-in-Err-clause-left
 returns-in-Err-clause-left g c =
@@ -76,8 +76,8 @@ returns-in-Err-clause-left g c =
     let are : items ≡ item_deliveries (n + 1) = c.as_slice-delivery-items.ensures ∙ c.in_ok-list.ensures in
     let rest : drill (n + 1) ≡ (drill n ++ take i items) ++ d ∷ drop (suc i) items = cut n items i d are c.loop-delivery-test.true c.delivery-item.is in
     let all = next_of run.size n _ (drop (suc i) items) d (omega (arith, c.loop-delivery.invariant.size_is, c.requires.next)) rest in
-    let halted = cut_off run _ all.0 d all.1 [] _ c.loop-delivery.world c.loop-delivery.invariant.taken c.deliver.new.revisions _ c.deliver.new.world (subst (λ k. IsSize k) (sym c.loop-delivery.invariant.size_is) c.requires.size) _ c.in-Err.ensures.err in
-    leaves_halted run.size _ d _ c.loop-delivery.world c.deliver.new.world halted c.loop-delivery.invariant.taken.limit c.loop-delivery.invariant.taken.held c.deliver.ensures.limit c.deliver.ensures.held
+    let halted = cut_off run _ all.0 d all.1 [] _ c.loop-delivery.world c.loop-delivery.invariant.taken c.deliver-delivered.new.revisions _ c.deliver-delivered.new.world (subst (λ k. IsSize k) (sym c.loop-delivery.invariant.size_is) c.requires.size) _ c.in-Err.ensures.err in
+    leaves_halted run.size _ d _ c.loop-delivery.world c.deliver-delivered.new.world halted c.loop-delivery.invariant.taken.limit c.loop-delivery.invariant.taken.held c.deliver-delivered.ensures.limit c.deliver-delivered.ensures.held
 
 pub returns-in-Err-clause-silent : goal.returns-in-Err-clause-silent
 returns-in-Err-clause-silent g c =
@@ -89,7 +89,7 @@ returns-in-Err-clause-silent g c =
     let are : items ≡ item_deliveries (n + 1) = c.as_slice-delivery-items.ensures ∙ c.in_ok-list.ensures in
     let rest : drill (n + 1) ≡ (drill n ++ take i items) ++ d ∷ drop (suc i) items = cut n items i d are c.loop-delivery-test.true c.delivery-item.is in
     let all = next_of run.size n _ (drop (suc i) items) d (omega (arith, c.loop-delivery.invariant.size_is, c.requires.next)) rest in
-    c.deliver.ensures.silent refl (silent run _ all.0 d all.1) ∙ c.loop-delivery.invariant.silent
+    c.deliver-delivered.ensures.silent refl (silent run _ all.0 d all.1) ∙ c.loop-delivery.invariant.silent
 
 pub loop-delivery-preserved : goal.loop-delivery-preserved
 loop-delivery-preserved g c =
@@ -105,10 +105,10 @@ loop-delivery-preserved g c =
     let before = c.loop-delivery.invariant in
     record {
       size_is = before.size_is;
-      taken = subst (λ l. HasTakenFirst (record run { pages = c.deliver.new.revisions; counts = c.add.new.self }) l (output g.K.Sink c.deliver.new.out) c.deliver.new.world) (one_more n items i d c.loop-delivery-test.true c.delivery-item.is)
-          (next_taken run _ all.0 d all.1 [] _ c.loop-delivery.world before.taken c.deliver.new.revisions c.add.new.self c.in-Ok.done.answer c.in-Ok.done.reported (output g.K.Sink c.deliver.new.out) c.deliver.new.world call.source.known call.ok call.answer c.add.ensures call.limit call.held);
+      taken = subst (λ l. HasTakenFirst (record run { pages = c.deliver-delivered.new.revisions; counts = c.add.new.self }) l (output g.K.Sink c.deliver-delivered.new.out) c.deliver-delivered.new.world) (one_more n items i d c.loop-delivery-test.true c.delivery-item.is)
+          (next_taken run _ all.0 d all.1 [] _ c.loop-delivery.world before.taken c.deliver-delivered.new.revisions c.add.new.self c.in-Ok.done.answer c.in-Ok.done.reported (output g.K.Sink c.deliver-delivered.new.out) c.deliver-delivered.new.world call.source.known call.ok call.answer c.add.ensures call.limit call.held);
       few = few_more c.in-Ok.done.answer c.loop-delivery.self.counts c.add.new.self (6 * n + i) (6 * n + (i + 1)) c.add.ensures (omega arith) before.few;
-      silent = c.deliver.ensures.silent refl (silent run _ all.0 d all.1) ∙ before.silent;
+      silent = c.deliver-delivered.ensures.silent refl (silent run _ all.0 d all.1) ∙ before.silent;
     }
 
 pub returns-clause-taken : goal.returns-clause-taken
