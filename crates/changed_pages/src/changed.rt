@@ -31,6 +31,13 @@ pub struct Changed<'a> {
     pub come: Entity<'a>,
 }
 
+impl Changed<'_> {
+    /// Gives back the memory of both. So their drop is proved here, and not in each crate that has them.
+    pub fn discard(self) {
+        drop(self);
+    }
+}
+
 // The document of a value that is a page of the entity: an item or a property.
 fn entity_in<'a>(alloc: Global, id: EntityId, json: &Json<'_, 'a>) -> Option<Entity<'a>>
     ensures { IfSome result (λ entity. page_of (json_view json.now) ≡ Some (record { id = id; document = AnEntity entity })) }

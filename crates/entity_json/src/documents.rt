@@ -46,3 +46,8 @@ pub fn document<'a>(
     let json = read(&arena, bytes)?;
     own_document(id, page_of(alloc, &json)?)
 }
+
+/// Gives back the memory of a document. So the drop of all that a document may hold is proved here, and not in each crate that has one.
+pub fn discard(document: Document<'_>) {
+    drop(document);
+}

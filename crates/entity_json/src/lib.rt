@@ -1,6 +1,6 @@
 //! The documents of entity pages in JSON.
 //!
-//! `documents` has the call, and `page` the page of a tree: a redirect, an item or property of `entity`, or a lexeme of
+//! `documents` has the calls, and `page` the page of a tree: a redirect, an item or property of `entity`, or a lexeme of
 //! `lexeme`, with the parts that `terms`, `statements`, `snaks`, `values`, `links` and `items` read. All of these read leaves by `leaf` and `number`, maps by
 //! `map`, and lists by the loops of `each`. `part` and `fault` have what a part and a page are refused for.
 #![tactic(auto)]
@@ -23,7 +23,7 @@ mod statements;
 mod terms;
 mod values;
 
-pub use documents::{PAGE_LIMIT, document};
+pub use documents::{PAGE_LIMIT, discard, document};
 pub use fault::DocumentFault;
 pub use laws::{
     a_tree_has_one_page, documents_are_of_their_entities, documents_are_pages, documents_are_small,

@@ -13,7 +13,7 @@ ghost use Rattle.splitting.specs.Filling.{AreAmong, HaveEntries, IsReadyFor, ent
 ghost use Rattle.splitting.specs.Graphs.{AreEntriesOf};
 
 use crate::graphs::{Graphs, set};
-use entity_json::{DocumentFault, document};
+use entity_json::{DocumentFault, discard, document};
 use entity_model::{Document, EntityId};
 use entity_rdf::direct_texts;
 use graph_routes::{Routes, route};
@@ -135,7 +135,7 @@ fn route_page(
     match document(setting.alloc, id, bytes) {
         Ok(document) => {
             let page = route_document(setting, routes, id, revision, &document);
-            drop(document);
+            discard(document);
             page
         }
         Err(DocumentFault::Unfit(_)) => unreachable!(),

@@ -68,7 +68,7 @@ fn texts_once(
     ensures { IfSome result (AreTextsOfParts wanted.version wanted.id known.entry.rev wanted.rev known.entry.counts changed.entry) }
 {
     let texts = texts_of(alloc, wanted, known, &changed);
-    drop(changed);
+    changed.discard();
     texts
 }
 

@@ -17,7 +17,7 @@ ghost use Rattle.graph_routes.specs.{declared.routes.Route.Route, Routing.route_
 
 use crate::comparing::{ChangedPage, ChangedTexts, KnownPage, changed_texts};
 use crate::meaning::document_texts;
-use entity_json::{DocumentFault, document};
+use entity_json::{DocumentFault, discard, document};
 use entity_model::{Document, EntityId, MappingVersion};
 use graph_routes::{Routes, route};
 use page_rdf::Counts;
@@ -210,11 +210,11 @@ pub fn texts_in(
     match document(alloc, wanted.id, bytes) {
         Ok(document) => match map_document(alloc, wanted, &document, routes) {
             Ok(mapped) => {
-                drop(document);
+                discard(document);
                 Ok(mapped)
             }
             Err(OutOfMemory) => {
-                drop(document);
+                discard(document);
                 Err(DocumentFault::OutOfMemory)
             }
         },
