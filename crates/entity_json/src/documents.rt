@@ -21,6 +21,7 @@ fn own_document<'a>(id: EntityId, page: Page<'a>) -> Result<Document<'a>, Docume
     if page.id == id {
         Ok(page.document)
     } else {
+        drop(page);
         Err(DocumentFault::Unfit(Unfit::Foreign))
     }
 }

@@ -1,15 +1,15 @@
 // Items and properties.
 
-ghost use Rattle.std.specs.Prelude.{◌≡◌};
+ghost use Rattle.std.specs.Prelude.{◌≡◌, []};
 ghost use Rattle.json_spell.specs.View.{json_view};
-ghost use Rattle.entity_json.specs.Finds.{Finds};
-ghost use Rattle.entity_json.specs.Reading.Pages.{kind_of_type, page_kind, datatype_by_kind, links_by_kind, entity_of};
+ghost use Rattle.entity_json.specs.Finds.{Finds, Makes};
+ghost use Rattle.entity_json.specs.Reading.Pages.{kind_of_type, page_kind, datatype_by_kind, links_by_kind, entity_of, entity_lists};
 
 use crate::leaf::{copy_text_at, id_of_kind_at, optional_text_at, text_at};
-use crate::links::links_at;
-use crate::part::PartFault;
-use crate::statements::statements_at;
-use crate::terms::{aliases_at, labels_at};
+use crate::links::read_links;
+use crate::part::{PartFault, finish};
+use crate::statements::read_statements;
+use crate::terms::{read_aliases, read_labels};
 use base::{CowText, List};
 use entity_model::{Entity, IdKind, Link};
 use json_spell::Json;
@@ -54,18 +54,42 @@ fn datatype_by_kind<'a>(
     }
 }
 
-// The links, which an item alone has.
-fn links_by_kind<'a>(
+// Reads the links, which an item alone has, into the list, which is empty.
+fn read_links_by_kind<'a>(
     alloc: Global,
     kind: IdKind,
     json: &Json<'_, 'a>,
-) -> Result<List<Link<'a>>, PartFault>
-    ensures { Finds result (links_by_kind kind (json_view json.now)) }
+    links: &mut List<Link<'a>>,
+) -> Result<(), PartFault>
+    requires { links.old ≡ [] }
+    ensures { Makes result links.new (links_by_kind kind (json_view json.now)) }
 {
     match kind {
-        IdKind::P | IdKind::L => Ok(List::new(alloc)),
-        IdKind::Q => links_at(alloc, json, "sitelinks"),
+        IdKind::P | IdKind::L => Ok(()),
+        IdKind::Q => read_links(alloc, json, "sitelinks", links),
     }
+}
+
+// Reads the lists of an item or a property of the kind, which are empty.
+#[tactic(auto, unfolding(crate::specs::Reading::Pages::entity_lists))]
+fn fill_entity<'a>(
+    alloc: Global,
+    kind: IdKind,
+    json: &Json<'_, 'a>,
+    entity: &mut Entity<'a>,
+) -> Result<(), PartFault>
+    requires labels { entity.old.labels ≡ [] }
+    requires descriptions { entity.old.descriptions ≡ [] }
+    requires aliases { entity.old.aliases ≡ [] }
+    requires statements { entity.old.statements ≡ [] }
+    requires links { entity.old.links ≡ [] }
+    ensures { Makes result entity.new (entity_lists kind (json_view json.now) entity.old) }
+{
+    read_labels(alloc, json, "labels", &mut entity.labels)?;
+    read_labels(alloc, json, "descriptions", &mut entity.descriptions)?;
+    read_aliases(alloc, json, "aliases", &mut entity.aliases)?;
+    read_statements(alloc, json, "claims", &mut entity.statements)?;
+    read_links_by_kind(alloc, kind, json, &mut entity.links)
 }
 
 // An item or a property.
@@ -74,22 +98,16 @@ pub fn entity_of<'a>(alloc: Global, json: &Json<'_, 'a>) -> Result<Entity<'a>, P
     ensures { Finds result (entity_of (json_view json.now)) }
 {
     let kind = page_kind(json)?;
-    let id = id_of_kind_at(kind, json, "id")?;
-    let datatype = datatype_by_kind(alloc, kind, json)?;
-    let modified = optional_text_at(alloc, json, "modified")?;
-    let labels = labels_at(alloc, json, "labels")?;
-    let descriptions = labels_at(alloc, json, "descriptions")?;
-    let aliases = aliases_at(alloc, json, "aliases")?;
-    let statements = statements_at(alloc, json, "claims")?;
-    let links = links_by_kind(alloc, kind, json)?;
-    Ok(Entity {
-        id,
-        datatype,
-        modified,
-        labels,
-        descriptions,
-        aliases,
-        statements,
-        links,
-    })
+    let mut entity = Entity {
+        id: id_of_kind_at(kind, json, "id")?,
+        datatype: datatype_by_kind(alloc, kind, json)?,
+        modified: optional_text_at(alloc, json, "modified")?,
+        labels: List::new(alloc),
+        descriptions: List::new(alloc),
+        aliases: List::new(alloc),
+        statements: List::new(alloc),
+        links: List::new(alloc),
+    };
+    let filled = fill_entity(alloc, kind, json, &mut entity);
+    finish(filled, entity)
 }

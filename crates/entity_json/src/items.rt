@@ -1,5 +1,6 @@
 // The ids of items.
 
+ghost use Rattle.std.specs.Prelude.{◌≡◌, []};
 ghost use Rattle.json_spell.specs.View.{json_view};
 ghost use Rattle.entity_json.specs.Finds.{Finds, Makes};
 ghost use Rattle.entity_json.specs.Reading.Items.{item_id_of, item_id_step, item_ids_at};
@@ -36,17 +37,16 @@ impl<'a> ItemReader<'a, EntityId> for ItemIdReader {
     }
 }
 
-// The ids of the list under the name, which may be missing.
+// Reads the ids of the list under the name, which may be missing, into the list `ids`, which is empty.
 #[tactic(auto, unfolding(crate::specs::Reading::Items::item_ids_at))]
-pub fn item_ids_at(
+pub fn read_item_ids(
     alloc: Global,
     json: &Json<'_, '_>,
     name: &str,
-) -> Result<List<EntityId>, PartFault>
-    ensures { Finds result (item_ids_at name.now (json_view json.now)) }
+    ids: &mut List<EntityId>,
+) -> Result<(), PartFault>
+    requires { ids.old ≡ [] }
+    ensures { Makes result ids.new (item_ids_at name.now (json_view json.now)) }
 {
-    let items = optional_list_at(json, name)?;
-    let mut ids = List::new(alloc);
-    each_found_item(alloc, &ItemIdReader, items, &mut ids)?;
-    Ok(ids)
+    each_found_item(alloc, &ItemIdReader, optional_list_at(json, name)?, ids)
 }

@@ -91,13 +91,6 @@ pub fn number_at<'a>(json: &Json<'_, 'a>, name: &str) -> Result<&'a str, PartFau
     number_of(member_at(json, name)?)
 }
 
-// The member with the name that is a number, as a part of the page.
-pub fn copy_number_at<'a>(json: &Json<'_, 'a>, name: &str) -> Result<CowText<'a>, PartFault>
-    ensures { Finds result (number_at name.now (json_view json.now)) }
-{
-    Ok(CowText::borrowed(number_at(json, name)?))
-}
-
 // A copy of the member with the name that is a text and may be missing.
 pub fn optional_text_at<'a>(
     alloc: Global,

@@ -1,19 +1,20 @@
 // Lexemes, their forms and their senses.
 
-ghost use Rattle.std.specs.Prelude.{◌≡◌, ◌++◌, IfOk, string_bytes};
+ghost use Rattle.std.specs.Prelude.{◌≡◌, ◌++◌, [], IfOk, codes, string_bytes};
 ghost use Rattle.json_spell.specs.View.{json_view};
 ghost use Rattle.entity_model.specs.EntityId.{id_text};
 ghost use Rattle.entity_json.specs.{Finds.Finds, Finds.Makes, Lexemes.list_name, Lexemes.mark_of, Lexemes.texts_name};
-ghost use Rattle.entity_json.specs.Reading.Lexemes.{features_by_kind, lexeme_of, part_id_at, part_of, part_step, parts_at};
+ghost use Rattle.entity_json.specs.Reading.Lexemes.{features_by_kind, lexeme_lists, lexeme_of, part_id_at, part_lists, part_of, part_step, parts_at};
+ghost use Rattle.entity_json.specs.Reading.Terms.{labels_at};
 
 use crate::each::{ItemReader, each_found_item};
-use crate::items::item_ids_at;
+use crate::items::read_item_ids;
 use crate::leaf::{copy_text_at, id_of_kind_at, optional_list_at, optional_text_at};
-use crate::part::PartFault;
-use crate::statements::statements_at;
-use crate::terms::labels_at;
+use crate::part::{PartFault, finish};
+use crate::statements::read_statements;
+use crate::terms::read_labels;
 use base::{CowText, List, OutOfMemory};
-use entity_model::{EntityId, IdKind, Lexeme, Part, is_part_id};
+use entity_model::{EntityId, IdKind, Lexeme, Part, Tagged, is_part_id};
 use json_spell::Json;
 use std::alloc::Global;
 
@@ -81,18 +82,38 @@ fn part_id_at<'a>(alloc: Global, front: &str, json: &Json<'_, 'a>) -> Result<Cow
     }
 }
 
-// The features, which a form alone has.
-fn features_by_kind(
+// Reads the features, which a form alone has, into the list, which is empty.
+fn read_features(
     alloc: Global,
     kind: PartKind,
     json: &Json<'_, '_>,
-) -> Result<List<EntityId>, PartFault>
-    ensures { Finds result (features_by_kind kind (json_view json.now)) }
+    features: &mut List<EntityId>,
+) -> Result<(), PartFault>
+    requires { features.old ≡ [] }
+    ensures { Makes result features.new (features_by_kind kind (json_view json.now)) }
 {
     match kind {
-        PartKind::Form => item_ids_at(alloc, json, "grammaticalFeatures"),
-        PartKind::Sense => Ok(List::new(alloc)),
+        PartKind::Form => read_item_ids(alloc, json, "grammaticalFeatures", features),
+        PartKind::Sense => Ok(()),
     }
+}
+
+// Reads the lists of a part of the kind, which are empty.
+#[tactic(auto, unfolding(crate::specs::Reading::Lexemes::part_lists))]
+fn fill_part<'a>(
+    alloc: Global,
+    kind: PartKind,
+    json: &Json<'_, 'a>,
+    part: &mut Part<'a>,
+) -> Result<(), PartFault>
+    requires texts { part.old.texts ≡ [] }
+    requires features { part.old.features ≡ [] }
+    requires statements { part.old.statements ≡ [] }
+    ensures { Makes result part.new (part_lists kind (json_view json.now) part.old) }
+{
+    read_labels(alloc, json, texts_name(kind), &mut part.texts)?;
+    read_features(alloc, kind, json, &mut part.features)?;
+    read_statements(alloc, json, "claims", &mut part.statements)
 }
 
 // A part of the kind, whose id begins so.
@@ -105,16 +126,14 @@ fn part_of<'a>(
 ) -> Result<Part<'a>, PartFault>
     ensures { Finds result (part_of kind front.now (json_view json.now)) }
 {
-    let id = part_id_at(alloc, front, json)?;
-    let texts = labels_at(alloc, json, texts_name(kind))?;
-    let features = features_by_kind(alloc, kind, json)?;
-    let statements = statements_at(alloc, json, "claims")?;
-    Ok(Part {
-        id,
-        texts,
-        features,
-        statements,
-    })
+    let mut part = Part {
+        id: part_id_at(alloc, front, json)?,
+        texts: List::new(alloc),
+        features: List::new(alloc),
+        statements: List::new(alloc),
+    };
+    let filled = fill_part(alloc, kind, json, &mut part);
+    finish(filled, part)
 }
 
 #[derive(Drop)]
@@ -138,15 +157,17 @@ impl<'a, 'm> ItemReader<'a, Part<'a>> for PartReader<'m> {
     }
 }
 
-// The parts of the kind of a lexeme, of which the list may be missing.
+// Reads the parts of the kind of a lexeme, of which the list may be missing, into the list `parts`, which is empty.
 #[tactic(auto, unfolding(crate::specs::Reading::Lexemes::parts_at))]
-fn parts_at<'a>(
+fn read_parts<'a>(
     alloc: Global,
     id: EntityId,
     kind: PartKind,
     json: &Json<'_, 'a>,
-) -> Result<List<Part<'a>>, PartFault>
-    ensures { Finds result (parts_at id kind (json_view json.now)) }
+    parts: &mut List<Part<'a>>,
+) -> Result<(), PartFault>
+    requires { parts.old ≡ [] }
+    ensures { Makes result parts.new (parts_at id kind (json_view json.now)) }
 {
     let items = optional_list_at(json, list_name(kind))?;
     let front = front(alloc, id, kind)?;
@@ -154,9 +175,33 @@ fn parts_at<'a>(
         kind,
         front: front.as_str(),
     };
-    let mut parts = List::new(alloc);
-    each_found_item(alloc, &reader, items, &mut parts)?;
-    Ok(parts)
+    each_found_item(alloc, &reader, items, parts)
+}
+
+// Reads the statements and the parts of a lexeme into its lists of them, which are empty.
+#[tactic(auto, unfolding(crate::specs::Reading::Lexemes::lexeme_lists))]
+fn fill_lexeme<'a>(
+    alloc: Global,
+    json: &Json<'_, 'a>,
+    lexeme: &mut Lexeme<'a>,
+) -> Result<(), PartFault>
+    requires statements { lexeme.old.statements ≡ [] }
+    requires forms { lexeme.old.forms ≡ [] }
+    requires senses { lexeme.old.senses ≡ [] }
+    ensures { Makes result lexeme.new (lexeme_lists (json_view json.now) lexeme.old) }
+{
+    read_statements(alloc, json, "claims", &mut lexeme.statements)?;
+    read_parts(alloc, lexeme.id, PartKind::Form, json, &mut lexeme.forms)?;
+    read_parts(alloc, lexeme.id, PartKind::Sense, json, &mut lexeme.senses)
+}
+
+// The lemmas.
+fn lemmas_at<'a>(alloc: Global, json: &Json<'_, 'a>) -> Result<List<Tagged<'a>>, PartFault>
+    ensures { Finds result (labels_at (codes "lemmas") (json_view json.now)) }
+{
+    let mut lemmas = List::new(alloc);
+    let filled = read_labels(alloc, json, "lemmas", &mut lemmas);
+    finish(filled, lemmas)
 }
 
 // A lexeme, where the page is that of one.
@@ -164,22 +209,16 @@ fn parts_at<'a>(
 pub fn lexeme_of<'a>(alloc: Global, json: &Json<'_, 'a>) -> Result<Lexeme<'a>, PartFault>
     ensures { Finds result (lexeme_of (json_view json.now)) }
 {
-    let id = id_of_kind_at(IdKind::L, json, "id")?;
-    let modified = optional_text_at(alloc, json, "modified")?;
-    let lemmas = labels_at(alloc, json, "lemmas")?;
-    let category = id_of_kind_at(IdKind::Q, json, "lexicalCategory")?;
-    let language = id_of_kind_at(IdKind::Q, json, "language")?;
-    let statements = statements_at(alloc, json, "claims")?;
-    let forms = parts_at(alloc, id, PartKind::Form, json)?;
-    let senses = parts_at(alloc, id, PartKind::Sense, json)?;
-    Ok(Lexeme {
-        id,
-        modified,
-        lemmas,
-        category,
-        language,
-        statements,
-        forms,
-        senses,
-    })
+    let mut lexeme = Lexeme {
+        id: id_of_kind_at(IdKind::L, json, "id")?,
+        modified: optional_text_at(alloc, json, "modified")?,
+        lemmas: lemmas_at(alloc, json)?,
+        category: id_of_kind_at(IdKind::Q, json, "lexicalCategory")?,
+        language: id_of_kind_at(IdKind::Q, json, "language")?,
+        statements: List::new(alloc),
+        forms: List::new(alloc),
+        senses: List::new(alloc),
+    };
+    let filled = fill_lexeme(alloc, json, &mut lexeme);
+    finish(filled, lexeme)
 }

@@ -1,13 +1,14 @@
 // Links to articles.
 
+ghost use Rattle.std.specs.Prelude.{◌≡◌, []};
 ghost use Rattle.json_spell.specs.View.{json_view, member_view};
 ghost use Rattle.entity_json.specs.{Finds.Finds, Finds.Makes, Reading.Links.link_of, Reading.Links.link_step, Reading.Links.links_at};
 
 use crate::each::{EntryReader, each_found_entry};
-use crate::items::item_ids_at;
+use crate::items::read_item_ids;
 use crate::leaf::copy_text_at;
 use crate::map::map_at;
-use crate::part::PartFault;
+use crate::part::{PartFault, finish};
 use base::List;
 use entity_model::Link;
 use json_spell::{Json, Member};
@@ -18,14 +19,13 @@ use std::alloc::Global;
 fn link_of<'a>(alloc: Global, json: &Json<'_, 'a>) -> Result<Link<'a>, PartFault>
     ensures { Finds result (link_of (json_view json.now)) }
 {
-    let site = copy_text_at(alloc, json, "site")?;
-    let title = copy_text_at(alloc, json, "title")?;
-    let badges = item_ids_at(alloc, json, "badges")?;
-    Ok(Link {
-        site,
-        title,
-        badges,
-    })
+    let mut link = Link {
+        site: copy_text_at(alloc, json, "site")?,
+        title: copy_text_at(alloc, json, "title")?,
+        badges: List::new(alloc),
+    };
+    let filled = read_item_ids(alloc, json, "badges", &mut link.badges);
+    finish(filled, link)
 }
 
 struct LinkReader;
@@ -44,17 +44,16 @@ impl<'a> EntryReader<'a, Link<'a>> for LinkReader {
     }
 }
 
-// The links of the map under the name.
+// Reads the links of the map under the name into the list, which is empty.
 #[tactic(auto, unfolding(crate::specs::Reading::Links::links_at))]
-pub fn links_at<'a>(
+pub fn read_links<'a>(
     alloc: Global,
     json: &Json<'_, 'a>,
     name: &str,
-) -> Result<List<Link<'a>>, PartFault>
-    ensures { Finds result (links_at name.now (json_view json.now)) }
+    links: &mut List<Link<'a>>,
+) -> Result<(), PartFault>
+    requires { links.old ≡ [] }
+    ensures { Makes result links.new (links_at name.now (json_view json.now)) }
 {
-    let entries = map_at(json, name)?;
-    let mut links = List::new(alloc);
-    each_found_entry(alloc, &LinkReader, entries, &mut links)?;
-    Ok(links)
+    each_found_entry(alloc, &LinkReader, map_at(json, name)?, links)
 }

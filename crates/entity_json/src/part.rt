@@ -1,6 +1,7 @@
 // Why a part of a page isn't read.
 
-ghost use Rattle.std.specs.Prelude.{◌≡◌};
+ghost use Rattle.std.specs.Prelude.{◌≡◌, Option};
+ghost use Rattle.entity_json.specs.Finds.{Finds, Makes};
 ghost use Rattle.entity_json.specs.declared.part.PartFault.TheVariants.{OutOfMemory as Refused};
 
 use base::OutOfMemory;
@@ -36,5 +37,15 @@ impl<T: Drop> From<AllocFailed<T>> for PartFault {
 
     fn from(_refused: AllocFailed<T>) -> PartFault {
         PartFault::OutOfMemory
+    }
+}
+
+// The part, where what it lacked was read into it.
+pub fn finish<T: Drop>(filled: Result<(), PartFault>, part: T) -> Result<T, PartFault>
+    ensures { (there : Option T) → Makes filled part there → Finds result there }
+{
+    match filled {
+        Ok(()) => Ok(part),
+        Err(fault) => Err(fault),
     }
 }

@@ -1,6 +1,6 @@
 // Statements and references.
 
-ghost use Rattle.std.specs.Prelude.{◌≡◌};
+ghost use Rattle.std.specs.Prelude.{◌≡◌, []};
 ghost use Rattle.json_spell.specs.View.{json_view, member_view};
 ghost use Rattle.entity_model.specs.Reference.{is_hash};
 ghost use Rattle.entity_json.specs.Finds.{Finds, Makes};
@@ -184,17 +184,16 @@ impl<'a> EntryReader<'a, Statement<'a>> for StatementsReader {
     }
 }
 
-// The statements of the map under the name.
+// Reads the statements of the map under the name into the list, which is empty.
 #[tactic(auto, unfolding(crate::specs::Reading::Statements::statements_at))]
-pub fn statements_at<'a>(
+pub fn read_statements<'a>(
     alloc: Global,
     json: &Json<'_, 'a>,
     name: &str,
-) -> Result<List<Statement<'a>>, PartFault>
-    ensures { Finds result (statements_at name.now (json_view json.now)) }
+    statements: &mut List<Statement<'a>>,
+) -> Result<(), PartFault>
+    requires { statements.old ≡ [] }
+    ensures { Makes result statements.new (statements_at name.now (json_view json.now)) }
 {
-    let entries = map_at(json, name)?;
-    let mut statements = List::new(alloc);
-    each_found_entry(alloc, &StatementsReader, entries, &mut statements)?;
-    Ok(statements)
+    each_found_entry(alloc, &StatementsReader, map_at(json, name)?, statements)
 }

@@ -1,5 +1,6 @@
 // Texts in languages: labels, descriptions and aliases.
 
+ghost use Rattle.std.specs.Prelude.{◌≡◌, []};
 ghost use Rattle.json_spell.specs.View.{json_view, member_view};
 ghost use Rattle.entity_json.specs.Finds.{Finds, Makes};
 ghost use Rattle.entity_json.specs.Reading.Terms.{tagged_under, label_step, alias_step, aliases_step, labels_at, aliases_at};
@@ -76,32 +77,30 @@ impl<'a> EntryReader<'a, Tagged<'a>> for AliasesReader {
     }
 }
 
-// The labels or descriptions under the name.
+// Reads the labels or descriptions under the name into the list, which is empty.
 #[tactic(auto, unfolding(crate::specs::Reading::Terms::labels_at))]
-pub fn labels_at<'a>(
+pub fn read_labels<'a>(
     alloc: Global,
     json: &Json<'_, 'a>,
     name: &str,
-) -> Result<List<Tagged<'a>>, PartFault>
-    ensures { Finds result (labels_at name.now (json_view json.now)) }
+    labels: &mut List<Tagged<'a>>,
+) -> Result<(), PartFault>
+    requires { labels.old ≡ [] }
+    ensures { Makes result labels.new (labels_at name.now (json_view json.now)) }
 {
-    let entries = map_at(json, name)?;
-    let mut labels = List::new(alloc);
-    each_found_entry(alloc, &LabelReader, entries, &mut labels)?;
-    Ok(labels)
+    each_found_entry(alloc, &LabelReader, map_at(json, name)?, labels)
 }
 
-// The aliases under the name.
+// Reads the aliases under the name into the list, which is empty.
 #[tactic(auto, unfolding(crate::specs::Reading::Terms::aliases_at))]
-pub fn aliases_at<'a>(
+pub fn read_aliases<'a>(
     alloc: Global,
     json: &Json<'_, 'a>,
     name: &str,
-) -> Result<List<Tagged<'a>>, PartFault>
-    ensures { Finds result (aliases_at name.now (json_view json.now)) }
+    aliases: &mut List<Tagged<'a>>,
+) -> Result<(), PartFault>
+    requires { aliases.old ≡ [] }
+    ensures { Makes result aliases.new (aliases_at name.now (json_view json.now)) }
 {
-    let entries = map_at(json, name)?;
-    let mut aliases = List::new(alloc);
-    each_found_entry(alloc, &AliasesReader, entries, &mut aliases)?;
-    Ok(aliases)
+    each_found_entry(alloc, &AliasesReader, map_at(json, name)?, aliases)
 }

@@ -8,8 +8,8 @@ ghost use Rattle.entity_json.specs.Finds.{Finds};
 ghost use Rattle.entity_json.specs.Reading.Values.{numbered_type, numeric_id, numbered_entity, entity_value, time_of, quantity_of, globe_of, value_of_type, value_of};
 
 use crate::leaf::{
-    copy_number_at, copy_text, copy_text_at, member_at, nullable_number_at, number_at,
-    optional_text_at, text_at, text_of,
+    copy_text, copy_text_at, member_at, nullable_number_at, number_at, optional_text_at, text_at,
+    text_of,
 };
 use crate::number::{is_whole, small_of};
 use crate::part::PartFault;
@@ -104,19 +104,19 @@ fn time_of<'a>(alloc: Global, json: &Json<'_, 'a>) -> Result<TimeParts<'a>, Part
 {
     let time = copy_text_at(alloc, json, "time")?;
     let calendar = copy_text_at(alloc, json, "calendarmodel")?;
-    let precision_text = copy_number_at(json, "precision")?;
-    let Some(precision) = small_of(precision_text.as_str()) else {
+    let precision_text = number_at(json, "precision")?;
+    let Some(precision) = small_of(precision_text) else {
         return Err(PartFault::Shape);
     };
-    let timezone = copy_number_at(json, "timezone")?;
+    let timezone = number_at(json, "timezone")?;
     if !is_whole(timezone.as_bytes()) {
         return Err(PartFault::Shape);
     }
     Ok(TimeParts {
         time,
         precision,
-        precision_text,
-        timezone,
+        precision_text: CowText::borrowed(precision_text),
+        timezone: CowText::borrowed(timezone),
         calendar,
     })
 }
@@ -143,13 +143,13 @@ fn quantity_of<'a>(alloc: Global, json: &Json<'_, 'a>) -> Result<QuantityParts<'
 fn globe_of<'a>(alloc: Global, json: &Json<'_, 'a>) -> Result<GlobeParts<'a>, PartFault>
     ensures { Finds result (globe_of (json_view json.now)) }
 {
-    let latitude = copy_number_at(json, "latitude")?;
-    let longitude = copy_number_at(json, "longitude")?;
+    let latitude = number_at(json, "latitude")?;
+    let longitude = number_at(json, "longitude")?;
     let precision = nullable_number_at(json, "precision")?;
     let globe = copy_text_at(alloc, json, "globe")?;
     Ok(GlobeParts {
-        latitude,
-        longitude,
+        latitude: CowText::borrowed(latitude),
+        longitude: CowText::borrowed(longitude),
         precision,
         globe,
     })

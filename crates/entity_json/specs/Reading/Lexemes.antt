@@ -38,6 +38,14 @@ part_of kind front t = do
   statements ← statements_at (codes "claims") t
   Some (record { id = id; texts = texts; features = features; statements = statements })
 
+-- a part of the kind with its lists, where its id is there
+unfoldable pub part_lists : PartKind → Tree → Part → Option Part
+part_lists kind t begun = do
+  texts ← labels_at (texts_name kind) t
+  features ← features_by_kind kind t
+  statements ← statements_at (codes "claims") t
+  Some (record { id = begun.id; texts = texts; features = features; statements = statements })
+
 -- one of a list, by its index
 abbrev pub part_step : PartKind → List ℕ → ℕ × Tree → List Part → Option (List Part)
 part_step kind front item out = put out (part_of kind front item.1)
@@ -58,3 +66,11 @@ lexeme_of t = do
   forms ← parts_at id Form t
   senses ← parts_at id Sense t
   Some (record { id = id; modified = modified; lemmas = lemmas; category = category; language = language; statements = statements; forms = forms; senses = senses })
+
+-- a lexeme with its statements and parts, where the rest of it is there
+unfoldable pub lexeme_lists : Tree → Lexeme → Option Lexeme
+lexeme_lists t begun = do
+  statements ← statements_at (codes "claims") t
+  forms ← parts_at begun.id Form t
+  senses ← parts_at begun.id Sense t
+  Some (record { id = begun.id; modified = begun.modified; lemmas = begun.lemmas; category = begun.category; language = begun.language; statements = statements; forms = forms; senses = senses })

@@ -52,6 +52,16 @@ entity_of t = do
   links ← links_by_kind kind t
   Some (record { id = id; datatype = datatype; modified = modified; labels = labels; descriptions = descriptions; aliases = aliases; statements = statements; links = links })
 
+-- an item or a property of the kind with its lists, where its other parts are there
+unfoldable pub entity_lists : IdKind → Tree → Entity → Option Entity
+entity_lists kind t begun = do
+  labels ← labels_at (codes "labels") t
+  descriptions ← labels_at (codes "descriptions") t
+  aliases ← aliases_at (codes "aliases") t
+  statements ← statements_at (codes "claims") t
+  links ← links_by_kind kind t
+  Some (record { id = begun.id; datatype = begun.datatype; modified = begun.modified; labels = labels; descriptions = descriptions; aliases = aliases; statements = statements; links = links })
+
 -- the page of an entity
 unfoldable pub entity_page : Tree → Option Page
 entity_page t = option_map (λ entity. record { id = entity.id; document = AnEntity entity }) (entity_of t)

@@ -1,11 +1,10 @@
--- Each part was read.
+-- The first parts were read, and the lists were filled in.
 use Rattle.json_spell.specs.View.{json_view}
-use Rattle.entity_json.proofs.Entities.{entity-read}
+use Rattle.entity_json.specs.Reading.Pages.{entity_of, entity_lists}
 use Rattle.entity_json.proofs.entity.entity_of.Goals as goal
 
 pub returns : goal.returns
+unfolding entity_of entity_lists
 returns c =
-    entity-read (json_view c.args.json.now) c.in_ok-kind.kind c.in_ok-id.id c.in_ok-datatype.datatype c.in_ok-modified.modified
-    c.in_ok-labels.labels c.in_ok-descriptions.descriptions c.in_ok-aliases.aliases c.in_ok-statements.statements c.in_ok-links.links
-    c.in_ok-kind.ensures c.in_ok-id.ensures c.in_ok-datatype.ensures c.in_ok-modified.ensures c.in_ok-labels.ensures
-    c.in_ok-descriptions.ensures c.in_ok-aliases.ensures c.in_ok-statements.ensures c.in_ok-links.ensures
+    c.finish.ensures (entity_of (json_view c.args.json.now))
+    (rw (c.in_ok-kind.ensures, c.in_ok-id_of_kind_at.ensures, c.in_ok-datatype_by_kind.ensures, c.in_ok-optional_text_at.ensures) c.fill_entity-filled.ensures)
