@@ -1,10 +1,9 @@
 // What a case gives to a run, and what it expects of it.
 
-use crate::filling::replaced;
 use crate::sections::Case;
-use crate::spelling::bytes_of;
+use crate::spelling::{bytes_of, numbered};
 use anyhow::{Context, Result, bail};
-use std::alloc::Global;
+use std::alloc::{AllocError, Global};
 
 /// What a run is given.
 #[derive(Drop)]
@@ -97,6 +96,22 @@ impl Given {
     }
 }
 
+impl Expected {
+    /// An empty status, nothing printed, and nothing else that is looked at.
+    pub fn new(alloc: Global) -> Expected {
+        Expected {
+            status: String::new(alloc),
+            out: Vec::new(alloc),
+            saved: None,
+            records: None,
+            side: None,
+            owners: None,
+            fetches: None,
+            waiting: None,
+        }
+    }
+}
+
 /// What the run of a case is given.
 pub fn given_of(alloc: Global, case: &Case) -> Result<Given> {
     let mut given = Given::new(alloc);
@@ -144,22 +159,23 @@ fn lines<'a>(case: &'a Case, name: &str) -> Option<&'a str> {
 
 // The words of the run; `''` is the empty word.
 fn words(alloc: Global, case: &Case) -> Result<Vec<String>> {
-    let mut words = Vec::new(alloc);
     let line = text(case, "words").context("no words")?;
+    let mut words = Vec::new(alloc);
     if line.is_empty() {
         return Ok(words);
     }
     for word in line.split(' ') {
-        let word = word_in(alloc, word)?;
-        words.push(word)?;
+        push_word(alloc, word, &mut words)?;
     }
     Ok(words)
 }
 
-// A word of the run.
-fn word_in(alloc: Global, word: &str) -> Result<String> {
+// Appends a word of the run.
+fn push_word(alloc: Global, word: &str, words: &mut Vec<String>) -> Result<(), AllocError> {
     let word = if word == "''" { "" } else { word };
-    Ok(String::from_str(alloc, word)?)
+    let word = String::from_str(alloc, word)?;
+    words.push(word)?;
+    Ok(())
 }
 
 // The pages of a case.
@@ -181,18 +197,28 @@ fn pages(alloc: Global, case: &Case) -> Result<Vec<Page>> {
 fn push_pages(alloc: Global, last: &str, lines: &str, pages: &mut Vec<Page>) -> Result<()> {
     let last: u64 = last.parse().context("the last revision")?;
     for rev in 1..=last {
-        let number = format!(in alloc; "{rev}")?;
-        let lines = replaced(alloc, lines, "%d", number.as_str())?;
-        let page = page_in(alloc, number.as_str(), lines.as_str())?;
-        pages.push(page)?;
+        push_page(alloc, rev, lines, pages)?;
     }
     Ok(())
 }
 
-// A page, its revision, and its folder where that isn't `.`. The line feed at its end is none of its bytes.
+// Appends the page of a revision, with its number for `%d`.
+fn push_page(alloc: Global, rev: u64, lines: &str, pages: &mut Vec<Page>) -> Result<()> {
+    let lines = numbered(alloc, lines, rev)?;
+    let page = page_of(alloc, rev, ".", lines.as_str())?;
+    pages.push(page)?;
+    Ok(())
+}
+
+// A page, with its revision, and its folder where that isn't `.`.
 fn page_in(alloc: Global, words: &str, lines: &str) -> Result<Page> {
     let (rev, folder) = words.split_once(" at ").unwrap_or((words, "."));
     let rev = rev.parse().context("a page's revision")?;
+    page_of(alloc, rev, folder, lines)
+}
+
+// The page of a revision in a folder. The line feed at its end is none of its bytes.
+fn page_of(alloc: Global, rev: u64, folder: &str, lines: &str) -> Result<Page> {
     let folder = String::from_str(alloc, folder)?;
     let mut bytes = bytes_of(alloc, lines)?;
     if bytes.as_slice().ends_with(b"\n") {
@@ -223,6 +249,11 @@ fn number(case: &Case, name: &str) -> Result<Option<usize>> {
     }
 }
 
+// The same as a count.
+fn count(case: &Case, name: &str) -> Result<Option<u64>> {
+    Ok(number(case, name)?.map(|number| number as u64))
+}
+
 // Numbers with a space between two.
 fn numbers(alloc: Global, words: &str) -> Result<Vec<u64>> {
     let mut numbers = Vec::new(alloc);
@@ -235,30 +266,27 @@ fn numbers(alloc: Global, words: &str) -> Result<Vec<u64>> {
 
 /// What the run of a case must leave: without a word of its own it ends with Ok and prints nothing.
 pub fn expected_of(alloc: Global, case: &Case) -> Result<Expected> {
-    let status = String::from_str(alloc, text(case, "status").unwrap_or("0"))?;
-    let mut expected = Expected {
-        status,
-        out: Vec::new(alloc),
-        saved: None,
-        records: None,
-        side: None,
-        owners: None,
-        fetches: None,
-        waiting: None,
-    };
-    expect_texts(alloc, case, &mut expected)?;
-    expected.fetches = number(case, "fetches")?.map(|n| n as u64);
-    expected.waiting = number(case, "waiting")?.map(|n| n as u64);
+    let mut expected = Expected::new(alloc);
+    expect_streams(alloc, case, &mut expected)?;
+    expect_world(alloc, case, &mut expected)?;
     Ok(expected)
 }
 
-// Expects what the sections say.
-fn expect_texts(alloc: Global, case: &Case, expected: &mut Expected) -> Result<()> {
+// Expects how the run ends, and what it prints and saves.
+fn expect_streams(alloc: Global, case: &Case, expected: &mut Expected) -> Result<()> {
+    expected.status = String::from_str(alloc, text(case, "status").unwrap_or("0"))?;
     expected.out = bytes_of(alloc, lines(case, "out").unwrap_or(""))?;
     expected.saved = bytes_where_told(alloc, case, "saved")?;
+    Ok(())
+}
+
+// Expects what the world has, and the counts.
+fn expect_world(alloc: Global, case: &Case, expected: &mut Expected) -> Result<()> {
     expected.records = bytes_where_told(alloc, case, "records")?;
     expected.side = bytes_where_told(alloc, case, "side")?;
     expected.owners = bytes_where_told(alloc, case, "owners")?;
+    expected.fetches = count(case, "fetches")?;
+    expected.waiting = count(case, "waiting")?;
     Ok(())
 }
 
