@@ -13,7 +13,10 @@ pub fn filled(alloc: Global, case: &Case, row: &str) -> Result<Case, AllocError>
         name,
         sections: Vec::new(alloc),
     };
-    fill_sections(alloc, case, row, &mut filled.sections)?;
+    let Ok(()) = fill_sections(alloc, case, row, &mut filled.sections) else {
+        drop(filled);
+        return Err(AllocError);
+    };
     Ok(filled)
 }
 
@@ -24,9 +27,10 @@ fn fill_sections(
     row: &str,
     sections: &mut Vec<Section>,
 ) -> Result<(), AllocError> {
+    let parts: Vec<&str> = row.split(" | ").collect(alloc)?;
     for section in &case.sections {
         if section.words_of("rows").is_none() {
-            let section = filled_section(alloc, section, row)?;
+            let section = filled_section(alloc, section, parts.as_slice())?;
             sections.push(section)?;
         }
     }
@@ -34,22 +38,22 @@ fn fill_sections(
 }
 
 // A section with the parts of a row in place of the marks.
-fn filled_section(alloc: Global, section: &Section, row: &str) -> Result<Section, AllocError> {
-    let head = filled_text(alloc, section.head.as_str(), row)?;
-    let body = filled_text(alloc, section.body.as_str(), row)?;
+fn filled_section(alloc: Global, section: &Section, parts: &[&str]) -> Result<Section, AllocError> {
+    let head = filled_text(alloc, section.head.as_str(), parts)?;
+    let body = filled_text(alloc, section.body.as_str(), parts)?;
     Ok(Section { head, body })
 }
 
 // A text with the parts of a row in place of the marks.
-fn filled_text(alloc: Global, text: &str, row: &str) -> Result<String, AllocError> {
+fn filled_text(alloc: Global, text: &str, parts: &[&str]) -> Result<String, AllocError> {
     let mut made = String::from_str(alloc, text)?;
-    fill_marks(alloc, &mut made, row)?;
+    fill_marks(alloc, &mut made, parts)?;
     Ok(made)
 }
 
 // Puts the parts of a row in place of the marks.
-fn fill_marks(alloc: Global, made: &mut String, row: &str) -> Result<(), AllocError> {
-    for (mark, part) in MARKS.iter().zip(row.split(" | ")) {
+fn fill_marks(alloc: Global, made: &mut String, parts: &[&str]) -> Result<(), AllocError> {
+    for (mark, part) in MARKS.iter().zip(parts) {
         *made = made.replace(alloc, *mark, part)?;
     }
     Ok(())

@@ -15,7 +15,10 @@ pub fn pieces_of_reads(
     bytes: usize,
 ) -> Result<Vec<Vec<u8>>, AllocError> {
     let mut pieces = Vec::new(alloc);
-    push_pieces(alloc, input, bytes, &mut pieces)?;
+    let Ok(()) = push_pieces(alloc, input, bytes, &mut pieces) else {
+        drop(pieces);
+        return Err(AllocError);
+    };
     pieces.push(Vec::new(alloc))?;
     Ok(pieces)
 }
@@ -26,11 +29,26 @@ pub fn pieces_of_writes(
     out: &[u8],
     bytes: usize,
 ) -> Result<Vec<Vec<u8>>, AllocError> {
+    let lines = split_lines(alloc, out)?;
     let mut pieces = Vec::new(alloc);
-    for line in &split_lines(alloc, out)? {
-        push_pieces(alloc, line, bytes, &mut pieces)?;
-    }
+    let Ok(()) = push_pieces_of_lines(alloc, lines.as_slice(), bytes, &mut pieces) else {
+        drop(pieces);
+        return Err(AllocError);
+    };
     Ok(pieces)
+}
+
+// Appends the pieces of lines.
+fn push_pieces_of_lines(
+    alloc: Global,
+    lines: &[&[u8]],
+    bytes: usize,
+    pieces: &mut Vec<Vec<u8>>,
+) -> Result<(), AllocError> {
+    for line in lines {
+        push_pieces(alloc, line, bytes, pieces)?;
+    }
+    Ok(())
 }
 
 // Appends the pieces of a text.

@@ -44,7 +44,10 @@ impl Case {
 /// The cases of a file.
 pub fn cases_of(alloc: Global, file: &str, text: &str) -> Result<Vec<Case>> {
     let mut cases = Vec::new(alloc);
-    take_lines(alloc, &mut cases, file, text)?;
+    if let Err(error) = take_lines(alloc, &mut cases, file, text) {
+        drop(cases);
+        return Err(error);
+    }
     Ok(cases)
 }
 

@@ -36,10 +36,16 @@ geo http://www.opengis.net/ont/geosparql#";
 /// The bytes of lines.
 pub fn bytes_of(alloc: Global, lines: &str) -> Result<Vec<u8>> {
     let mut bytes = Vec::new(alloc);
-    for line in lines.lines() {
-        push_whole_line(alloc, &mut bytes, line)?;
-    }
+    push_bytes(alloc, lines, &mut bytes)?;
     Ok(bytes)
+}
+
+/// Appends the bytes of lines.
+pub fn push_bytes(alloc: Global, lines: &str, bytes: &mut Vec<u8>) -> Result<()> {
+    for line in lines.lines() {
+        push_whole_line(alloc, bytes, line)?;
+    }
+    Ok(())
 }
 
 // Appends what a line stands for, and its line feed where no `\` takes it away.
