@@ -45,16 +45,26 @@ pub fn check(case: &Case) -> Result<()> {
 
 // Sees that a section has a name that is known, and is as this name wants it.
 fn check_section(case: &Case, section: &Section) -> Result<()> {
-    let head = section.head.as_str();
     if name_of(PAGES, section).is_some() {
         return Ok(());
     }
-    if let Some(name) = name_of(WITH_LINES, section) {
-        if head != name {
-            bail!("words behind the name {name:?}");
-        }
-        return check_once(case, name);
+    match name_of(WITH_LINES, section) {
+        Some(name) => check_with_lines(case, section, name),
+        None => check_one_line(case, section),
     }
+}
+
+// Sees that a section with lines of its own has no words behind its name, and stands once.
+fn check_with_lines(case: &Case, section: &Section, name: &str) -> Result<()> {
+    if section.head.as_str() != name {
+        bail!("words behind the name {name:?}");
+    }
+    check_once(case, name)
+}
+
+// Sees that a section is called like one that is one line, has no lines, and stands once.
+fn check_one_line(case: &Case, section: &Section) -> Result<()> {
+    let head = section.head.as_str();
     let name = name_of(ONE_LINE, section).context(format_args!("no section is called {head:?}"))?;
     if !section.body.is_empty() {
         bail!("lines below {head:?}");
@@ -97,13 +107,22 @@ fn check_rows(case: &Case, rows: &str) -> Result<()> {
 // Sees that each part of a row has a mark somewhere, and each mark a part.
 fn check_row(case: &Case, row: &str) -> Result<()> {
     let parts = row.split(" | ").count();
-    if parts > MARKS.len() || !MARKS.iter().take(parts).all(|mark| has_mark(case, mark)) {
+    for (index, mark) in MARKS.iter().enumerate() {
+        check_mark(case, row, mark, index < parts)?;
+    }
+    if parts > MARKS.len() {
         bail!("no mark for a part of the row {row:?}");
     }
-    if MARKS.iter().skip(parts).any(|mark| has_mark(case, mark)) {
-        bail!("no part for a mark in the row {row:?}");
-    }
     Ok(())
+}
+
+// Sees that a mark stands somewhere just where the row has a part for it.
+fn check_mark(case: &Case, row: &str, mark: &str, has_part: bool) -> Result<()> {
+    match (has_part, has_mark(case, mark)) {
+        (true, false) => bail!("no mark for a part of the row {row:?}"),
+        (false, true) => bail!("no part for a mark in the row {row:?}"),
+        _ => Ok(()),
+    }
 }
 
 // Whether a section that isn't the table has the mark.

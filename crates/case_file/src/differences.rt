@@ -1,8 +1,7 @@
 // The first lines in which two texts differ.
 
 use crate::pieces::split_lines;
-use anyhow::Result;
-use std::alloc::Global;
+use std::alloc::{AllocError, Global};
 
 /// The first lines that differ, where something is expected.
 pub fn differing_where_told(
@@ -10,7 +9,7 @@ pub fn differing_where_told(
     what: &str,
     expected: &Option<Vec<u8>>,
     found: &[u8],
-) -> Result<Option<String>> {
+) -> Result<Option<String>, AllocError> {
     match expected {
         None => Ok(None),
         Some(expected) => differing(alloc, what, expected.as_slice(), found),
@@ -23,7 +22,7 @@ pub fn differing_numbers(
     what: &str,
     expected: Option<u64>,
     found: u64,
-) -> Result<Option<String>> {
+) -> Result<Option<String>, AllocError> {
     match expected {
         Some(number) if number != found => {
             Ok(Some(format!(in alloc; "     {what}: expected {number}, found {found}")?))
@@ -38,48 +37,58 @@ pub fn differing(
     what: &str,
     expected: &[u8],
     found: &[u8],
-) -> Result<Option<String>> {
+) -> Result<Option<String>, AllocError> {
     if expected == found {
         return Ok(None);
     }
-    let expected = split_lines(alloc, expected)?;
-    let found = split_lines(alloc, found)?;
-    let index = equal_lines(expected.as_slice(), found.as_slice());
+    let index = equal_lines(alloc, expected, found)?;
     let number = index.saturating_add(1);
-    let expected = line_at(alloc, expected.as_slice(), index)?;
-    let expected = expected.as_str();
-    let found = line_at(alloc, found.as_slice(), index)?;
-    let found = found.as_str();
-    Ok(Some(format!(in alloc;
-        "     {what}, line {number}\n     expected {expected}\n     found    {found}"
-    )?))
+    let expected = line_at(alloc, expected, index)?;
+    let found = line_at(alloc, found, index)?;
+    let told = told_lines(alloc, what, number, expected.as_str(), found.as_str())?;
+    Ok(Some(told))
 }
 
 // How many lines at the front are equal.
-fn equal_lines(a: &[&[u8]], b: &[&[u8]]) -> usize {
-    a.iter().zip(b).take_while(|pair| pair.0 == pair.1).count()
+fn equal_lines(alloc: Global, a: &[u8], b: &[u8]) -> Result<usize, AllocError> {
+    let a = split_lines(alloc, a)?;
+    let b = split_lines(alloc, b)?;
+    Ok(a.iter().zip(&b).take_while(|pair| pair.0 == pair.1).count())
 }
 
-// The line at an index, or that there is none.
-fn line_at(alloc: Global, lines: &[&[u8]], index: usize) -> Result<String> {
-    match lines.get(index) {
+// The line at an index as a text, or that there is none.
+fn line_at(alloc: Global, text: &[u8], index: usize) -> Result<String, AllocError> {
+    match split_lines(alloc, text)?.get(index) {
         Some(line) => printable(alloc, line),
-        None => Ok(String::from_str(alloc, "nothing more")?),
+        None => String::from_str(alloc, "nothing more"),
     }
+}
+
+// What is printed of two lines that differ.
+fn told_lines(
+    alloc: Global,
+    what: &str,
+    number: usize,
+    expected: &str,
+    found: &str,
+) -> Result<String, AllocError> {
+    format!(in alloc; "     {what}, line {number}\n     expected {expected}\n     found    {found}")
 }
 
 // A line as a text, as far as it can be shown.
-fn printable(alloc: Global, line: &[u8]) -> Result<String> {
+fn printable(alloc: Global, line: &[u8]) -> Result<String, AllocError> {
     let mut text = String::new(alloc);
     for byte in line.iter().take(400) {
-        match byte {
-            b' '..=b'~' => text.push(char::from(*byte))?,
-            b'\n' => {}
-            _ => {
-                let escape = format!(in alloc; "\\x{byte:02x}")?;
-                text.push_str(escape.as_str())?;
-            }
-        }
+        push_printable(&mut text, *byte)?;
     }
     Ok(text)
+}
+
+// Appends a byte, as far as it can be shown.
+fn push_printable(text: &mut String, byte: u8) -> Result<(), AllocError> {
+    match byte {
+        b' '..=b'~' => text.push(char::from(byte)),
+        b'\n' => Ok(()),
+        _ => write!(text, "\\x{byte:02x}"),
+    }
 }

@@ -1,10 +1,9 @@
 // What a case gives to a run, and what it expects of it.
 
-use crate::filling::replaced;
 use crate::sections::Case;
-use crate::spelling::bytes_of;
+use crate::spelling::{bytes_of, numbered, push_bytes};
 use anyhow::{Context, Result, bail};
-use std::alloc::Global;
+use std::alloc::{AllocError, Global};
 
 /// What a run is given.
 #[derive(Drop)]
@@ -97,31 +96,58 @@ impl Given {
     }
 }
 
+impl Expected {
+    /// An empty status, nothing printed, and nothing else that is looked at.
+    pub fn new(alloc: Global) -> Expected {
+        Expected {
+            status: String::new(alloc),
+            out: Vec::new(alloc),
+            saved: None,
+            records: None,
+            side: None,
+            owners: None,
+            fetches: None,
+            waiting: None,
+        }
+    }
+}
+
 /// What the run of a case is given.
 pub fn given_of(alloc: Global, case: &Case) -> Result<Given> {
     let mut given = Given::new(alloc);
-    give_texts(alloc, case, &mut given)?;
-    give_calls(alloc, case, &mut given)?;
+    if let Err(error) = give(alloc, case, &mut given) {
+        drop(given);
+        return Err(error);
+    }
     Ok(given)
+}
+
+// Gives what the sections say.
+fn give(alloc: Global, case: &Case, given: &mut Given) -> Result<()> {
+    give_texts(alloc, case, given)?;
+    give_calls(case, given)
 }
 
 // Gives the words, the pages, and the bytes that are read.
 fn give_texts(alloc: Global, case: &Case, given: &mut Given) -> Result<()> {
-    given.words = words(alloc, case)?;
-    given.input = bytes_of(alloc, lines(case, "in").unwrap_or(""))?;
-    given.pages = pages(alloc, case)?;
-    given.resumed = bytes_of(alloc, lines(case, "resume").unwrap_or(""))?;
-    Ok(())
+    push_words(alloc, case, &mut given.words)?;
+    push_bytes(alloc, lines(case, "in").unwrap_or(""), &mut given.input)?;
+    push_pages(alloc, case, &mut given.pages)?;
+    push_bytes(
+        alloc,
+        lines(case, "resume").unwrap_or(""),
+        &mut given.resumed,
+    )
 }
 
 // Gives the calls, and those that fail.
-fn give_calls(alloc: Global, case: &Case, given: &mut Given) -> Result<()> {
-    given.reads = calls_of(alloc, case, "bytes a read", "failing reads")?;
-    given.writes = calls_of(alloc, case, "bytes a write", "failing writes")?;
-    given.saves = calls_of(alloc, case, "bytes a save", "failing saves")?;
-    given.loads = calls_of(alloc, case, "bytes a load", "failing loads")?;
-    given.failing_fetches = numbers(alloc, text(case, "failing fetches").unwrap_or(""))?;
-    Ok(())
+fn give_calls(case: &Case, given: &mut Given) -> Result<()> {
+    set_calls(case, "bytes a read", "failing reads", &mut given.reads)?;
+    set_calls(case, "bytes a write", "failing writes", &mut given.writes)?;
+    set_calls(case, "bytes a save", "failing saves", &mut given.saves)?;
+    set_calls(case, "bytes a load", "failing loads", &mut given.loads)?;
+    let failing = text(case, "failing fetches").unwrap_or("");
+    push_numbers(failing, &mut given.failing_fetches)
 }
 
 // Calls of which none fails.
@@ -134,85 +160,99 @@ fn all_well(alloc: Global) -> Calls {
 
 // The words behind the name of a section, where the case has it.
 fn text<'a>(case: &'a Case, name: &str) -> Option<&'a str> {
-    case.section(name).map(|section| section.0)
+    let (words, _) = case.section(name)?;
+    Some(words)
 }
 
 // The lines of a section, where the case has it.
 fn lines<'a>(case: &'a Case, name: &str) -> Option<&'a str> {
-    case.section(name).map(|section| section.1)
+    let (_, lines) = case.section(name)?;
+    Some(lines)
 }
 
-// The words of the run; `''` is the empty word.
-fn words(alloc: Global, case: &Case) -> Result<Vec<String>> {
-    let mut words = Vec::new(alloc);
+// Appends the words of the run; `''` is the empty word.
+fn push_words(alloc: Global, case: &Case, words: &mut Vec<String>) -> Result<()> {
     let line = text(case, "words").context("no words")?;
     if line.is_empty() {
-        return Ok(words);
+        return Ok(());
     }
     for word in line.split(' ') {
-        let word = word_in(alloc, word)?;
-        words.push(word)?;
-    }
-    Ok(words)
-}
-
-// A word of the run.
-fn word_in(alloc: Global, word: &str) -> Result<String> {
-    let word = if word == "''" { "" } else { word };
-    Ok(String::from_str(alloc, word)?)
-}
-
-// The pages of a case.
-fn pages(alloc: Global, case: &Case) -> Result<Vec<Page>> {
-    let mut pages = Vec::new(alloc);
-    for section in &case.sections {
-        if let Some(words) = section.words_of("page") {
-            let page = page_in(alloc, words, section.body.as_str())?;
-            pages.push(page)?;
-        }
-        if let Some(words) = section.words_of("pages to") {
-            push_pages(alloc, words, section.body.as_str(), &mut pages)?;
-        }
-    }
-    Ok(pages)
-}
-
-// Appends a page for each revision from 1 to the last, with the number for `%d`.
-fn push_pages(alloc: Global, last: &str, lines: &str, pages: &mut Vec<Page>) -> Result<()> {
-    let last: u64 = last.parse().context("the last revision")?;
-    for rev in 1..=last {
-        let number = format!(in alloc; "{rev}")?;
-        let lines = replaced(alloc, lines, "%d", number.as_str())?;
-        let page = page_in(alloc, number.as_str(), lines.as_str())?;
-        pages.push(page)?;
+        push_word(alloc, word, words)?;
     }
     Ok(())
 }
 
-// A page, its revision, and its folder where that isn't `.`. The line feed at its end is none of its bytes.
-fn page_in(alloc: Global, words: &str, lines: &str) -> Result<Page> {
+// Appends a word of the run.
+fn push_word(alloc: Global, word: &str, words: &mut Vec<String>) -> Result<(), AllocError> {
+    let word = if word == "''" { "" } else { word };
+    let word = String::from_str(alloc, word)?;
+    words.push(word)?;
+    Ok(())
+}
+
+// Appends the pages of a case.
+fn push_pages(alloc: Global, case: &Case, pages: &mut Vec<Page>) -> Result<()> {
+    for section in &case.sections {
+        if let Some(words) = section.words_of("page") {
+            push_page_in(alloc, words, section.body.as_str(), pages)?;
+        }
+        if let Some(words) = section.words_of("pages to") {
+            push_pages_to(alloc, words, section.body.as_str(), pages)?;
+        }
+    }
+    Ok(())
+}
+
+// Appends a page for each revision from 1 to the last, with the number for `%d`.
+fn push_pages_to(alloc: Global, last: &str, lines: &str, pages: &mut Vec<Page>) -> Result<()> {
+    let last: u64 = last.parse().context("the last revision")?;
+    for rev in 1..=last {
+        push_page_of(alloc, rev, lines, pages)?;
+    }
+    Ok(())
+}
+
+// Appends the page of a revision, with its number for `%d`.
+fn push_page_of(alloc: Global, rev: u64, lines: &str, pages: &mut Vec<Page>) -> Result<()> {
+    let lines = numbered(alloc, lines, rev)?;
+    push_page(alloc, rev, ".", lines.as_str(), pages)
+}
+
+// Appends a page, with its revision, and its folder where that isn't `.`.
+fn push_page_in(alloc: Global, words: &str, lines: &str, pages: &mut Vec<Page>) -> Result<()> {
     let (rev, folder) = words.split_once(" at ").unwrap_or((words, "."));
     let rev = rev.parse().context("a page's revision")?;
-    let folder = String::from_str(alloc, folder)?;
+    push_page(alloc, rev, folder, lines, pages)
+}
+
+// Appends the page of a revision in a folder. The line feed at its end is none of its bytes.
+fn push_page(
+    alloc: Global,
+    rev: u64,
+    folder: &str,
+    lines: &str,
+    pages: &mut Vec<Page>,
+) -> Result<()> {
     let mut bytes = bytes_of(alloc, lines)?;
     if bytes.as_slice().ends_with(b"\n") {
         bytes.pop();
     }
-    Ok(Page { folder, rev, bytes })
+    let folder = String::from_str(alloc, folder)?;
+    pages.push(Page { folder, rev, bytes })?;
+    Ok(())
 }
 
-// The bytes of a call, and the calls that fail.
-fn calls_of(alloc: Global, case: &Case, bytes: &str, failing: &str) -> Result<Calls> {
+// Sets the bytes of a call, and the calls that fail.
+fn set_calls(case: &Case, bytes: &str, failing: &str, calls: &mut Calls) -> Result<()> {
     let failing = match text(case, failing) {
         None | Some("each") => "",
         Some(words) => words,
     };
-    let bytes = number(case, bytes)?.unwrap_or(BYTES_A_CALL);
-    if bytes == 0 {
+    calls.bytes = number(case, bytes)?.unwrap_or(BYTES_A_CALL);
+    if calls.bytes == 0 {
         bail!("no bytes a call");
     }
-    let failing = numbers(alloc, failing)?;
-    Ok(Calls { bytes, failing })
+    push_numbers(failing, &mut calls.failing)
 }
 
 // The number behind the name of a section, where the case has it.
@@ -223,42 +263,53 @@ fn number(case: &Case, name: &str) -> Result<Option<usize>> {
     }
 }
 
-// Numbers with a space between two.
-fn numbers(alloc: Global, words: &str) -> Result<Vec<u64>> {
-    let mut numbers = Vec::new(alloc);
+// The same as a count.
+fn count(case: &Case, name: &str) -> Result<Option<u64>> {
+    Ok(number(case, name)?.map(|number| number as u64))
+}
+
+// Appends numbers with a space between two.
+fn push_numbers(words: &str, numbers: &mut Vec<u64>) -> Result<()> {
     for word in words.split_whitespace() {
         let number = word.parse().context(format_args!("{word}"))?;
         numbers.push(number)?;
     }
-    Ok(numbers)
+    Ok(())
 }
 
 /// What the run of a case must leave: without a word of its own it ends with Ok and prints nothing.
 pub fn expected_of(alloc: Global, case: &Case) -> Result<Expected> {
-    let status = String::from_str(alloc, text(case, "status").unwrap_or("0"))?;
-    let mut expected = Expected {
-        status,
-        out: Vec::new(alloc),
-        saved: None,
-        records: None,
-        side: None,
-        owners: None,
-        fetches: None,
-        waiting: None,
-    };
-    expect_texts(alloc, case, &mut expected)?;
-    expected.fetches = number(case, "fetches")?.map(|n| n as u64);
-    expected.waiting = number(case, "waiting")?.map(|n| n as u64);
+    let mut expected = Expected::new(alloc);
+    if let Err(error) = expect(alloc, case, &mut expected) {
+        drop(expected);
+        return Err(error);
+    }
     Ok(expected)
 }
 
 // Expects what the sections say.
-fn expect_texts(alloc: Global, case: &Case, expected: &mut Expected) -> Result<()> {
-    expected.out = bytes_of(alloc, lines(case, "out").unwrap_or(""))?;
+fn expect(alloc: Global, case: &Case, expected: &mut Expected) -> Result<()> {
+    expect_streams(alloc, case, expected)?;
+    expect_world(alloc, case, expected)
+}
+
+// Expects how the run ends, and what it prints and saves.
+fn expect_streams(alloc: Global, case: &Case, expected: &mut Expected) -> Result<()> {
+    expected
+        .status
+        .push_str(text(case, "status").unwrap_or("0"))?;
+    push_bytes(alloc, lines(case, "out").unwrap_or(""), &mut expected.out)?;
     expected.saved = bytes_where_told(alloc, case, "saved")?;
+    Ok(())
+}
+
+// Expects what the world has, and the counts.
+fn expect_world(alloc: Global, case: &Case, expected: &mut Expected) -> Result<()> {
     expected.records = bytes_where_told(alloc, case, "records")?;
     expected.side = bytes_where_told(alloc, case, "side")?;
     expected.owners = bytes_where_told(alloc, case, "owners")?;
+    expected.fetches = count(case, "fetches")?;
+    expected.waiting = count(case, "waiting")?;
     Ok(())
 }
 

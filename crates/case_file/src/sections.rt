@@ -4,7 +4,7 @@
 // spaces begins a section of it; a line that begins with two spaces belongs to the section before it.
 
 use anyhow::{Context, Result, bail};
-use std::alloc::Global;
+use std::alloc::{AllocError, Global};
 
 /// A case: its name with that of its file, and its sections.
 #[derive(Drop)]
@@ -44,13 +44,20 @@ impl Case {
 /// The cases of a file.
 pub fn cases_of(alloc: Global, file: &str, text: &str) -> Result<Vec<Case>> {
     let mut cases = Vec::new(alloc);
-    for (index, line) in text.lines().enumerate() {
-        let number = index.saturating_add(1);
-        take_line(alloc, &mut cases, file, line).context(format_args!(
-            "{file}.case, line {number}"
-        ))?;
+    if let Err(error) = take_lines(alloc, &mut cases, file, text) {
+        drop(cases);
+        return Err(error);
     }
     Ok(cases)
+}
+
+// Takes the lines of a file.
+fn take_lines(alloc: Global, cases: &mut Vec<Case>, file: &str, text: &str) -> Result<()> {
+    for (index, line) in text.lines().enumerate() {
+        let number = index.saturating_add(1);
+        take_line(alloc, cases, file, line).context(format_args!("{file}.case, line {number}"))?;
+    }
+    Ok(())
 }
 
 // Takes a line: one that says nothing, a case's first, a section's first, or one that belongs to the section before it.
@@ -59,14 +66,12 @@ fn take_line(alloc: Global, cases: &mut Vec<Case>, file: &str, line: &str) -> Re
         return Ok(());
     }
     if let Some(name) = line.strip_prefix("case ") {
-        let case = new_case(alloc, file, name)?;
-        cases.push(case)?;
-        return Ok(());
+        return Ok(add_case(alloc, cases, file, name)?);
     }
     let case = cases.last_mut().context("no case begins before it")?;
     match line.strip_prefix("  ") {
         Some(content) => add_content(case, content),
-        None => add_section(alloc, case, line),
+        None => Ok(add_section(alloc, case, line)?),
     }
 }
 
@@ -75,17 +80,21 @@ fn is_empty(line: &str) -> bool {
     line.is_empty() || line.starts_with('#')
 }
 
-// A case without sections.
-fn new_case(alloc: Global, file: &str, name: &str) -> Result<Case> {
+// Adds a case without sections.
+fn add_case(
+    alloc: Global,
+    cases: &mut Vec<Case>,
+    file: &str,
+    name: &str,
+) -> Result<(), AllocError> {
     let name = format!(in alloc; "{file}: {name}")?;
-    Ok(Case {
-        name,
-        sections: Vec::new(alloc),
-    })
+    let sections = Vec::new(alloc);
+    cases.push(Case { name, sections })?;
+    Ok(())
 }
 
 // Adds a section without lines.
-fn add_section(alloc: Global, case: &mut Case, head: &str) -> Result<()> {
+fn add_section(alloc: Global, case: &mut Case, head: &str) -> Result<(), AllocError> {
     let head = String::from_str(alloc, head)?;
     let body = String::new(alloc);
     case.sections.push(Section { head, body })?;

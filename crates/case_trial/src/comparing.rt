@@ -2,8 +2,8 @@
 
 use crate::runner::{Left, Runner};
 use anyhow::Result;
-use case_file::{Expected, Given, differing, differing_numbers, differing_where_told};
-use std::alloc::Global;
+use case_file::{Expected, Given, differing, differing_numbers};
+use std::alloc::{AllocError, Global};
 
 // Makes one run, and says how it differs.
 pub(crate) fn tried_once<R: Runner>(
@@ -12,16 +12,11 @@ pub(crate) fn tried_once<R: Runner>(
     given: &Given,
     expected: &Expected,
 ) -> Result<Option<String>> {
-    let left = runner.run(alloc, given, asked(&expected.owners))?;
-    difference(alloc, expected, &left)
-}
-
-// The triples whose owners are looked at.
-fn asked(owners: &Option<Vec<u8>>) -> &[u8] {
-    match owners {
-        None => b"",
-        Some(lines) => lines.as_slice(),
-    }
+    let asked = told(&expected.owners).unwrap_or(b"");
+    let left = runner.run(alloc, given, asked)?;
+    let difference = difference(alloc, expected, &left);
+    drop(left);
+    Ok(difference?)
 }
 
 // Makes a run that must stop with a status once so much was printed, and says how it differs.
@@ -33,97 +28,143 @@ pub(crate) fn tried_till_stop<R: Runner>(
     out: &[u8],
 ) -> Result<Option<String>> {
     let expected = ending(alloc, status, out)?;
-    tried_once(alloc, runner, given, &expected)
-}
-
-// Makes a run that must stop while it saves, once so much was saved and all was printed, and says how it differs.
-pub(crate) fn tried_till_save_stops<R: Runner>(
-    alloc: Global,
-    runner: &R,
-    given: &Given,
-    whole: &Expected,
-    saved: &[u8],
-) -> Result<Option<String>> {
-    let mut expected = ending(alloc, "4 wdq: write fault", whole.out.as_slice())?;
-    expected.saved = Some(Vec::from_slice(alloc, saved)?);
-    tried_once(alloc, runner, given, &expected)
+    let found = tried_once(alloc, runner, given, &expected);
+    drop(expected);
+    found
 }
 
 // What a run must leave of which only the status and the output are looked at.
-pub(crate) fn ending(alloc: Global, status: &str, out: &[u8]) -> Result<Expected> {
-    let status = String::from_str(alloc, status)?;
-    let out = Vec::from_slice(alloc, out)?;
-    Ok(Expected {
-        status,
-        out,
-        saved: None,
-        records: None,
-        side: None,
-        owners: None,
-        fetches: None,
-        waiting: None,
-    })
+pub(crate) fn ending(alloc: Global, status: &str, out: &[u8]) -> Result<Expected, AllocError> {
+    let mut expected = Expected::new(alloc);
+    let Ok(()) = end(alloc, status, out, &mut expected) else {
+        drop(expected);
+        return Err(AllocError);
+    };
+    Ok(expected)
 }
 
-// What differs; None where nothing does.
-fn difference(alloc: Global, expected: &Expected, left: &Left) -> Result<Option<String>> {
-    let of_streams = stream_difference(alloc, expected, left)?;
-    if of_streams.is_some() {
-        return Ok(of_streams);
-    }
-    let of_world = world_difference(alloc, expected, left)?;
-    if of_world.is_some() {
-        return Ok(of_world);
-    }
-    count_difference(alloc, expected, left)
+// Expects a status, and an output.
+fn end(alloc: Global, status: &str, out: &[u8], expected: &mut Expected) -> Result<(), AllocError> {
+    expected.status = String::from_str(alloc, status)?;
+    expected.out = Vec::from_slice(alloc, out)?;
+    Ok(())
 }
 
-// What differs in the status, and in what was printed and saved.
-fn stream_difference(alloc: Global, expected: &Expected, left: &Left) -> Result<Option<String>> {
-    let of_status = differing(
+// What differs first; None where nothing does.
+fn difference(
+    alloc: Global,
+    expected: &Expected,
+    left: &Left,
+) -> Result<Option<String>, AllocError> {
+    let mut found = None;
+    see_streams(alloc, expected, left, &mut found)?;
+    see_world(alloc, expected, left, &mut found)?;
+    Ok(found)
+}
+
+// Sees what differs in the status, and in what was printed and saved.
+fn see_streams(
+    alloc: Global,
+    expected: &Expected,
+    left: &Left,
+    found: &mut Option<String>,
+) -> Result<(), AllocError> {
+    see(
         alloc,
+        found,
         "status",
-        expected.status.as_bytes(),
+        Some(expected.status.as_bytes()),
         left.status.as_bytes(),
     )?;
-    if of_status.is_some() {
-        return Ok(of_status);
-    }
-    let of_output = differing(
+    see(
         alloc,
+        found,
         "output",
-        expected.out.as_slice(),
+        Some(expected.out.as_slice()),
         left.out.as_slice(),
     )?;
-    if of_output.is_some() {
-        return Ok(of_output);
-    }
-    differing_where_told(alloc, "saved", &expected.saved, left.saved.as_slice())
+    see(
+        alloc,
+        found,
+        "saved",
+        told(&expected.saved),
+        left.saved.as_slice(),
+    )
 }
 
-// What differs in the world.
-fn world_difference(alloc: Global, expected: &Expected, left: &Left) -> Result<Option<String>> {
-    let of_records = differing_where_told(
+// Sees what differs in the world, and in the counts.
+fn see_world(
+    alloc: Global,
+    expected: &Expected,
+    left: &Left,
+    found: &mut Option<String>,
+) -> Result<(), AllocError> {
+    see(
         alloc,
+        found,
         "records",
-        &expected.records,
+        told(&expected.records),
         left.records.as_bytes(),
     )?;
-    if of_records.is_some() {
-        return Ok(of_records);
-    }
-    let of_side = differing_where_told(alloc, "side output", &expected.side, left.side.as_bytes())?;
-    if of_side.is_some() {
-        return Ok(of_side);
-    }
-    differing_where_told(alloc, "owners", &expected.owners, left.owners.as_bytes())
+    see(
+        alloc,
+        found,
+        "side output",
+        told(&expected.side),
+        left.side.as_bytes(),
+    )?;
+    see(
+        alloc,
+        found,
+        "owners",
+        told(&expected.owners),
+        left.owners.as_bytes(),
+    )?;
+    see_numbers(alloc, found, "fetches", expected.fetches, left.fetches)?;
+    see_numbers(
+        alloc,
+        found,
+        "waiting events",
+        expected.waiting,
+        left.waiting,
+    )
 }
 
-// What differs in the counts.
-fn count_difference(alloc: Global, expected: &Expected, left: &Left) -> Result<Option<String>> {
-    let of_fetches = differing_numbers(alloc, "fetches", expected.fetches, left.fetches)?;
-    if of_fetches.is_some() {
-        return Ok(of_fetches);
+// A section that is looked at.
+fn told(section: &Option<Vec<u8>>) -> Option<&[u8]> {
+    match section {
+        None => None,
+        Some(lines) => Some(lines.as_slice()),
     }
-    differing_numbers(alloc, "waiting events", expected.waiting, left.waiting)
+}
+
+// Sees how two texts differ, where something is expected and nothing was found before.
+fn see(
+    alloc: Global,
+    found: &mut Option<String>,
+    what: &str,
+    expected: Option<&[u8]>,
+    left: &[u8],
+) -> Result<(), AllocError> {
+    match expected {
+        Some(expected) if found.is_none() => {
+            *found = differing(alloc, what, expected, left)?;
+            Ok(())
+        }
+        _ => Ok(()),
+    }
+}
+
+// Sees how two numbers differ, where one is expected and nothing was found before.
+fn see_numbers(
+    alloc: Global,
+    found: &mut Option<String>,
+    what: &str,
+    expected: Option<u64>,
+    left: u64,
+) -> Result<(), AllocError> {
+    if found.is_none() {
+        *found = differing_numbers(alloc, what, expected, left)?;
+    }
+    Ok(())
 }

@@ -5,7 +5,7 @@ use crate::runner::{Left, Runner};
 use crate::trial::{Trial, differs_at};
 use anyhow::Result;
 use case_file::{Case, Expected, Given, differing, split_lines};
-use std::alloc::Global;
+use std::alloc::{AllocError, Global};
 
 // The most lines of a case that is cut: each of its runs costs as much as the whole.
 const MOST_LINES: usize = 64;
@@ -59,13 +59,20 @@ pub(crate) fn tried_in_two<R: Runner>(
         runs = runs.saturating_add(2);
         let found = difference_of_parts(alloc, runner, given, expected, cut)?;
         if let Some(difference) = found {
-            return differs_at(alloc, "the cut", cut as u64, runs, difference.as_str());
+            return differs_at(alloc, "the cut", cut as u64, runs, difference);
         }
     }
     Ok(Trial {
         runs,
         difference: None,
     })
+}
+
+// The first part of a run: how many lines it has, and what it left.
+#[derive(Drop)]
+struct First {
+    lines: usize,
+    left: Left,
 }
 
 // What differs from the whole run where it is cut after so many lines; None where nothing does.
@@ -76,32 +83,80 @@ fn difference_of_parts<R: Runner>(
     expected: &Expected,
     cut: usize,
 ) -> Result<Option<String>> {
-    let first = runner.run(alloc, &first_part(alloc, given, cut)?, b"")?;
-    if first.status.as_str() != "0" {
-        return differing(alloc, "status of the first part", b"0", b"another");
+    let part = first_part(alloc, given, cut)?;
+    let left = runner.run(alloc, &part, b"");
+    drop(part);
+    let first = First {
+        lines: cut,
+        left: left?,
+    };
+    let found = difference_behind(alloc, runner, given, expected, &first);
+    drop(first);
+    found
+}
+
+// What differs from the whole run once the first part was run.
+fn difference_behind<R: Runner>(
+    alloc: Global,
+    runner: &R,
+    given: &Given,
+    expected: &Expected,
+    first: &First,
+) -> Result<Option<String>> {
+    let left = &first.left;
+    if left.status.as_str() != "0" {
+        let found = differing(alloc, "status of the first part", b"0", b"another");
+        return Ok(found?);
     }
-    let second = second_part(alloc, given, cut, &first)?;
-    match rest(alloc, expected, &first)? {
-        None => differing(
-            alloc,
-            "output of the first part",
-            expected.out.as_slice(),
-            first.out.as_slice(),
-        ),
-        Some(rest) => tried_once(alloc, runner, &second, &rest),
-    }
+    let Some(out) = output_behind(alloc, expected, left)? else {
+        let out = expected.out.as_slice();
+        let found = differing(alloc, "output of the first part", out, left.out.as_slice());
+        return Ok(found?);
+    };
+    let rest = rest(alloc, expected, left, out)?;
+    let found = tried_second(alloc, runner, given, &rest, first);
+    drop(rest);
+    found
+}
+
+// Tries the second part.
+fn tried_second<R: Runner>(
+    alloc: Global,
+    runner: &R,
+    given: &Given,
+    rest: &Expected,
+    first: &First,
+) -> Result<Option<String>> {
+    let second = second_part(alloc, given, first)?;
+    let found = tried_once(alloc, runner, &second, rest);
+    drop(second);
+    found
 }
 
 // The first lines, which are saved. No section is printed.
-fn first_part(alloc: Global, given: &Given, cut: usize) -> Result<Given> {
+fn first_part(alloc: Global, given: &Given, cut: usize) -> Result<Given, AllocError> {
     let mut part = given.copy(alloc)?;
-    part.words = saving_words(alloc, given.words.as_slice())?;
-    part.input = first_lines(alloc, given.input.as_slice(), cut)?;
+    let Ok(()) = keep_first(alloc, given, cut, &mut part) else {
+        drop(part);
+        return Err(AllocError);
+    };
     Ok(part)
 }
 
+// Leaves the first lines, and the words that save.
+fn keep_first(
+    alloc: Global,
+    given: &Given,
+    cut: usize,
+    part: &mut Given,
+) -> Result<(), AllocError> {
+    part.words = saving_words(alloc, given.words.as_slice())?;
+    part.input = first_lines(alloc, given.input.as_slice(), cut)?;
+    Ok(())
+}
+
 // The words without those for sections, and the one that saves.
-fn saving_words(alloc: Global, words: &[String]) -> Result<Vec<String>> {
+fn saving_words(alloc: Global, words: &[String]) -> Result<Vec<String>, AllocError> {
     let mut kept = Vec::new(alloc);
     for word in words {
         if !is_section(word.as_str()) {
@@ -113,41 +168,49 @@ fn saving_words(alloc: Global, words: &[String]) -> Result<Vec<String>> {
 }
 
 // So many lines of a text.
-fn first_lines(alloc: Global, text: &[u8], count: usize) -> Result<Vec<u8>> {
-    let mut first = Vec::new(alloc);
-    for line in split_lines(alloc, text)?.iter().take(count) {
-        first.extend_from_slice(line)?;
+fn first_lines(alloc: Global, text: &[u8], count: usize) -> Result<Vec<u8>, AllocError> {
+    let lines = split_lines(alloc, text)?;
+    match lines.as_slice().split_at_checked(count) {
+        Some((first, _)) => first.concat(alloc),
+        None => Vec::from_slice(alloc, text),
     }
-    Ok(first)
 }
 
 // The other lines, which go on from what was saved.
-fn second_part(alloc: Global, given: &Given, cut: usize, first: &Left) -> Result<Given> {
+fn second_part(alloc: Global, given: &Given, first: &First) -> Result<Given, AllocError> {
     let mut part = given.copy(alloc)?;
-    go_on_from(alloc, first, &mut part)?;
-    part.input = lines_behind(alloc, given.input.as_slice(), cut)?;
+    let Ok(()) = go_on_from(alloc, given, first, &mut part) else {
+        drop(part);
+        return Err(AllocError);
+    };
     Ok(part)
 }
 
-// Lets a run go on from what the first part saved. The calls that fail are counted on.
-fn go_on_from(alloc: Global, first: &Left, part: &mut Given) -> Result<()> {
+// Lets a run go on from what the first part saved, with the lines behind it. The calls that fail are counted on.
+fn go_on_from(
+    alloc: Global,
+    given: &Given,
+    first: &First,
+    part: &mut Given,
+) -> Result<(), AllocError> {
     push_word(alloc, &mut part.words, "--resume=day")?;
-    part.resumed = Vec::from_slice(alloc, first.saved.as_slice())?;
-    part.failing_fetches = counted_on(alloc, part.failing_fetches.as_slice(), first.fetches)?;
+    part.resumed = Vec::from_slice(alloc, first.left.saved.as_slice())?;
+    part.failing_fetches = counted_on(alloc, given.failing_fetches.as_slice(), first.left.fetches)?;
+    part.input = lines_behind(alloc, given.input.as_slice(), first.lines)?;
     Ok(())
 }
 
 // The lines of a text behind so many.
-fn lines_behind(alloc: Global, text: &[u8], count: usize) -> Result<Vec<u8>> {
-    let mut others = Vec::new(alloc);
-    for line in split_lines(alloc, text)?.iter().skip(count) {
-        others.extend_from_slice(line)?;
+fn lines_behind(alloc: Global, text: &[u8], count: usize) -> Result<Vec<u8>, AllocError> {
+    let lines = split_lines(alloc, text)?;
+    match lines.as_slice().split_at_checked(count) {
+        Some((_, others)) => others.concat(alloc),
+        None => Ok(Vec::new(alloc)),
     }
-    Ok(others)
 }
 
 // The calls that fail behind so many, counted from there.
-fn counted_on(alloc: Global, calls: &[u64], made: u64) -> Result<Vec<u64>> {
+fn counted_on(alloc: Global, calls: &[u64], made: u64) -> Result<Vec<u64>, AllocError> {
     let mut others = Vec::new(alloc);
     for call in calls {
         if *call > made {
@@ -157,24 +220,32 @@ fn counted_on(alloc: Global, calls: &[u64], made: u64) -> Result<Vec<u64>> {
     Ok(others)
 }
 
-// What the second part must leave: the rest of the output after the first part's answers, and everything else as the whole; None where the
-// first part printed something else.
-fn rest(alloc: Global, whole: &Expected, first: &Left) -> Result<Option<Expected>> {
+// The rest of the whole output behind the first part's answers; None where the first part printed something else.
+fn output_behind<'a>(
+    alloc: Global,
+    whole: &'a Expected,
+    first: &Left,
+) -> Result<Option<&'a [u8]>, AllocError> {
     let answers = before_graphs(alloc, first.out.as_slice())?;
-    let Some(out) = whole.out.as_slice().strip_prefix(answers.as_slice()) else {
-        return Ok(None);
-    };
+    Ok(whole.out.as_slice().strip_prefix(answers.as_slice()))
+}
+
+// What the second part must leave: this output, and everything else as the whole.
+fn rest(alloc: Global, whole: &Expected, first: &Left, out: &[u8]) -> Result<Expected, AllocError> {
     let mut rest = ending(alloc, whole.status.as_str(), out)?;
-    copy_world(alloc, whole, &mut rest)?;
+    let Ok(()) = copy_world(alloc, whole, &mut rest) else {
+        drop(rest);
+        return Err(AllocError);
+    };
     rest.fetches = whole
         .fetches
         .map(|count| count.saturating_sub(first.fetches));
     rest.waiting = whole.waiting;
-    Ok(Some(rest))
+    Ok(rest)
 }
 
 // Copies what the world must have.
-fn copy_world(alloc: Global, whole: &Expected, rest: &mut Expected) -> Result<()> {
+fn copy_world(alloc: Global, whole: &Expected, rest: &mut Expected) -> Result<(), AllocError> {
     rest.records = copied(alloc, &whole.records)?;
     rest.side = copied(alloc, &whole.side)?;
     rest.owners = copied(alloc, &whole.owners)?;
@@ -182,26 +253,33 @@ fn copy_world(alloc: Global, whole: &Expected, rest: &mut Expected) -> Result<()
 }
 
 // What a part printed before the triples of its graphs, if it has graphs.
-fn before_graphs(alloc: Global, out: &[u8]) -> Result<Vec<u8>> {
+fn before_graphs(alloc: Global, out: &[u8]) -> Result<Vec<u8>, AllocError> {
+    let lines = split_lines(alloc, out)?;
     let mut answers = Vec::new(alloc);
-    for line in split_lines(alloc, out)?.iter() {
-        if line.starts_with(b"# graph ") {
-            return Ok(answers);
-        }
-        answers.extend_from_slice(line)?;
-    }
+    push_before_graphs(lines.as_slice(), &mut answers)?;
     Ok(answers)
 }
 
+// Appends the lines before the first graph.
+fn push_before_graphs(lines: &[&[u8]], answers: &mut Vec<u8>) -> Result<(), AllocError> {
+    for line in lines {
+        if line.starts_with(b"# graph ") {
+            return Ok(());
+        }
+        answers.extend_from_slice(line)?;
+    }
+    Ok(())
+}
+
 // Appends a word.
-fn push_word(alloc: Global, words: &mut Vec<String>, word: &str) -> Result<()> {
+fn push_word(alloc: Global, words: &mut Vec<String>, word: &str) -> Result<(), AllocError> {
     let word = String::from_str(alloc, word)?;
     words.push(word)?;
     Ok(())
 }
 
 // A section that is looked at, with memory of its own.
-fn copied(alloc: Global, section: &Option<Vec<u8>>) -> Result<Option<Vec<u8>>> {
+fn copied(alloc: Global, section: &Option<Vec<u8>>) -> Result<Option<Vec<u8>>, AllocError> {
     match section {
         None => Ok(None),
         Some(bytes) => Ok(Some(Vec::from_slice(alloc, bytes.as_slice())?)),

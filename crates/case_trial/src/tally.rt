@@ -1,9 +1,11 @@
 // All cases of the case files, tried one after the other.
 
 use crate::runner::Runner;
+use crate::trial::Trial;
 use crate::trying::tried;
 use anyhow::Result;
 use case_file::{Case, CaseFile, case_files, cases_of};
+use std::io;
 
 /// How many cases were tried, and how many runs that took; and how many differ.
 #[derive(Clone, Copy)]
@@ -24,8 +26,9 @@ pub fn try_cases<R: Runner>(rt: &HostRuntime, runner: &R, wanted: &[String]) -> 
         runs: 0,
         failed: 0,
     };
-    for file in case_files(rt)? {
-        tally = try_file(rt, runner, &file, wanted, tally)?;
+    let files = case_files(rt)?;
+    for file in &files {
+        tally = try_file(rt, runner, file, wanted, tally)?;
     }
     Ok(tally)
 }
@@ -39,9 +42,10 @@ fn try_file<R: Runner>(
     tally: Tally,
 ) -> Result<Tally> {
     let mut tally = tally;
-    for case in cases_of(rt.alloc(), file.name.as_str(), file.text.as_str())? {
-        if is_wanted(&case, wanted) {
-            tally = try_case(rt, runner, &case, tally)?;
+    let cases = cases_of(rt.alloc(), file.name.as_str(), file.text.as_str())?;
+    for case in &cases {
+        if is_wanted(case, wanted) {
+            tally = try_case(rt, runner, case, tally)?;
         }
     }
     Ok(tally)
@@ -57,23 +61,26 @@ fn is_wanted(case: &Case, wanted: &[String]) -> bool {
 
 // Tries a case, and prints its line.
 fn try_case<R: Runner>(rt: &HostRuntime, runner: &R, case: &Case, tally: Tally) -> Result<Tally> {
-    let name = case.name.as_str();
     let trial = tried(rt.alloc(), runner, case)?;
+    print_trial(rt, case.name.as_str(), &trial)?;
+    let failed = u64::from(trial.difference.is_some());
+    Ok(Tally {
+        cases: tally.cases.saturating_add(1),
+        runs: tally.runs.saturating_add(trial.runs),
+        failed: tally.failed.saturating_add(failed),
+    })
+}
+
+// Prints the line of a case.
+fn print_trial(rt: &HostRuntime, name: &str, trial: &Trial) -> io::Result<()> {
     let runs = trial.runs;
     match &trial.difference {
-        None if runs == 1 => println!(rt; "ok   {name}")?,
-        None => println!(rt; "ok   {name} ({runs} runs)")?,
+        None if runs == 1 => println!(rt; "ok   {name}"),
+        None => println!(rt; "ok   {name} ({runs} runs)"),
         Some(difference) => {
             let difference = difference.as_str();
             println!(rt; "FAIL {name}\n{difference}")?;
-            eprintln!(rt; "FAIL {name}")?;
+            eprintln!(rt; "FAIL {name}")
         }
     }
-    Ok(Tally {
-        cases: tally.cases.saturating_add(1),
-        runs: tally.runs.saturating_add(runs),
-        failed: tally
-            .failed
-            .saturating_add(u64::from(trial.difference.is_some())),
-    })
 }

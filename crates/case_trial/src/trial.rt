@@ -16,7 +16,7 @@ pub(crate) fn differs_at(
     place: &str,
     number: u64,
     runs: u64,
-    difference: &str,
+    difference: String,
 ) -> Result<Trial> {
     let difference = format!(in alloc; "     at {place} {number}\n{difference}")?;
     Ok(Trial {

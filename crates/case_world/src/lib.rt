@@ -6,9 +6,9 @@
 use anyhow::{Context, Result, bail};
 use entity_model::{EntityId, Event, Kind, Unfit};
 use entity_state::Mode;
-use rdf_term::{Pattern, Term, Triple, TripleSet};
+use rdf_term::{OutOfMemory, Pattern, Term, Triple, TripleSet};
 use side_output::{Cause, Entry};
-use std::alloc::Global;
+use std::alloc::{AllocError, Global};
 use std::str;
 use term_reading::read_term;
 use world::World;
@@ -19,16 +19,38 @@ use world::World;
 /// Memory was refused.
 pub fn records(alloc: Global, world: &World) -> Result<String> {
     let mut lines = String::new(alloc);
-    let ids = world.entities()?;
-    for id in ids.as_slice() {
-        let line = record(alloc, world, *id)?;
-        lines.push_str(line.as_str())?;
-    }
+    push_records(alloc, world, &mut lines)?;
     Ok(lines)
 }
 
-// The line of an entity.
-fn record(alloc: Global, world: &World, id: EntityId) -> Result<String> {
+// Appends a line for each entity.
+fn push_records(alloc: Global, world: &World, lines: &mut String) -> Result<(), OutOfMemory> {
+    let ids = world.entities()?;
+    for id in ids.as_slice() {
+        push_record(alloc, world, *id, lines)?;
+    }
+    Ok(())
+}
+
+// Appends the line of an entity.
+fn push_record(
+    alloc: Global,
+    world: &World,
+    id: EntityId,
+    lines: &mut String,
+) -> Result<(), OutOfMemory> {
+    let name = id.text(alloc)?;
+    let written = write_record(world, id, name.as_str(), lines);
+    Ok(written?)
+}
+
+// Writes the line of an entity with this name.
+fn write_record(
+    world: &World,
+    id: EntityId,
+    name: &str,
+    lines: &mut String,
+) -> Result<(), AllocError> {
     let state = world.state(id);
     let mode = match state.mode {
         Mode::Unknown => "unknown",
@@ -36,11 +58,9 @@ fn record(alloc: Global, world: &World, id: EntityId) -> Result<String> {
         Mode::Deleted => "deleted",
     };
     let rev = state.rev;
-    let id_text = id.text(alloc)?;
-    let name = id_text.as_str();
     match world.held(id) {
-        Some((held, _)) => Ok(format!(in alloc; "{name} {mode} {rev}, holds {held}\n")?),
-        None => Ok(format!(in alloc; "{name} {mode} {rev}, holds nothing\n")?),
+        Some((held, _)) => write!(lines, "{name} {mode} {rev}, holds {held}\n"),
+        None => write!(lines, "{name} {mode} {rev}, holds nothing\n"),
     }
 }
 
@@ -50,6 +70,12 @@ fn record(alloc: Global, world: &World, id: EntityId) -> Result<String> {
 /// Memory was refused.
 pub fn side(alloc: Global, world: &World) -> Result<String> {
     let mut lines = String::new(alloc);
+    push_side(alloc, world, &mut lines)?;
+    Ok(lines)
+}
+
+// Appends a line for each entry of the side output.
+fn push_side(alloc: Global, world: &World, lines: &mut String) -> Result<(), OutOfMemory> {
     for index in 0..world.side_len() {
         let stands = if world.side_open(index) {
             "open"
@@ -57,30 +83,55 @@ pub fn side(alloc: Global, world: &World) -> Result<String> {
             "closed"
         };
         if let Some(entry) = world.side(index) {
-            let line = entry_line(alloc, entry, stands)?;
-            lines.push_str(line.as_str())?;
+            push_entry(alloc, entry, stands, lines)?;
         }
     }
-    Ok(lines)
+    Ok(())
 }
 
-// The line of an entry.
-fn entry_line(alloc: Global, entry: &Entry, stands: &str) -> Result<String> {
+// Appends the line of an entry.
+fn push_entry(
+    alloc: Global,
+    entry: &Entry,
+    stands: &str,
+    lines: &mut String,
+) -> Result<(), OutOfMemory> {
     match entry {
-        Entry::Late(event) => late_line(alloc, event, stands),
+        Entry::Late(event) => push_late(alloc, event, stands, lines),
         Entry::Revision(event, rev, cause) => {
             let id = event.entity.text(alloc)?;
-            let id = id.as_str();
-            let cause = cause_word(*cause);
-            Ok(format!(in alloc; "# side {cause} {stands} {id} {rev}\n")?)
+            let written = write_vain(id.as_str(), *rev, *cause, stands, lines);
+            Ok(written?)
         }
     }
 }
 
-// The line of a late event.
-fn late_line(alloc: Global, event: &Event, stands: &str) -> Result<String> {
+// Writes the line of a fetch in vain.
+fn write_vain(
+    id: &str,
+    rev: u64,
+    cause: Cause,
+    stands: &str,
+    lines: &mut String,
+) -> Result<(), AllocError> {
+    let cause = cause_word(cause);
+    write!(lines, "# side {cause} {stands} {id} {rev}\n")
+}
+
+// Appends the line of a late event.
+fn push_late(
+    alloc: Global,
+    event: &Event,
+    stands: &str,
+    lines: &mut String,
+) -> Result<(), OutOfMemory> {
     let id = event.entity.text(alloc)?;
-    let id = id.as_str();
+    let written = write_late(event, id.as_str(), stands, lines);
+    Ok(written?)
+}
+
+// Writes the line of a late event of the entity with this name.
+fn write_late(event: &Event, id: &str, stands: &str, lines: &mut String) -> Result<(), AllocError> {
     let kind = match event.kind {
         Kind::Edit => "edit",
         Kind::Delete => "delete",
@@ -90,7 +141,7 @@ fn late_line(alloc: Global, event: &Event, stands: &str) -> Result<String> {
     };
     let rev = event.rev;
     let time = event.time;
-    Ok(format!(in alloc; "# side late {stands} {id} {kind} {rev} {time}\n")?)
+    write!(lines, "# side late {stands} {id} {kind} {rev} {time}\n")
 }
 
 // The word for a cause.
@@ -113,18 +164,26 @@ fn cause_word(cause: Cause) -> &'static str {
 pub fn owners(alloc: Global, world: &World, given: &[u8]) -> Result<String> {
     let mut lines = String::new(alloc);
     for line in str::from_utf8(given)?.lines() {
-        let (_, triple_text) = line.split_once(' ').context("a number and a triple")?;
-        let count = owners_of(alloc, world, triple_text)?;
-        let line = format!(in alloc; "{count} {triple_text}\n")?;
-        lines.push_str(line.as_str())?;
+        push_owners(alloc, world, line, &mut lines)?;
     }
     Ok(lines)
 }
 
+// Appends a line like this one, with the number of entities that hold its triple.
+fn push_owners(alloc: Global, world: &World, line: &str, lines: &mut String) -> Result<()> {
+    let (_, triple_text) = line.split_once(' ').context("a number and a triple")?;
+    let count = owners_of(alloc, world, triple_text)?;
+    Ok(write!(lines, "{count} {triple_text}\n")?)
+}
+
 // How many entities hold the triple with this text.
 fn owners_of(alloc: Global, world: &World, text: &str) -> Result<u64> {
-    let triple = triple_in(alloc, text).context(format_args!("no triple, or no memory: {text}"))?;
-    agreed_owners(alloc, world, &triple, text)
+    let Some(triple) = triple_in(alloc, text) else {
+        bail!("no triple, or no memory: {text}");
+    };
+    let count = agreed_owners(alloc, world, &triple, text);
+    drop(triple);
+    count
 }
 
 // How many entities hold a triple. What is stored has to agree, and so has what each entity holds.
@@ -145,12 +204,17 @@ fn holders(world: &World, triple: &Triple) -> Option<u64> {
     let ids = world.entities().ok()?;
     let mut count: u64 = 0;
     for id in ids.as_slice() {
-        let set = world.set_of(*id).ok()?;
-        if set.contains(triple) {
+        if is_held(world, *id, triple)? {
             count = count.saturating_add(1);
         }
     }
     Some(count)
+}
+
+// Whether an entity has the triple in the set of what it holds; None where memory is refused.
+fn is_held(world: &World, id: EntityId, triple: &Triple) -> Option<bool> {
+    let set = world.set_of(id).ok()?;
+    Some(set.contains(triple))
 }
 
 // Whether the triple is in both sets: of all that is stored, and of what agrees with its object.
@@ -183,7 +247,9 @@ fn found_by_object(world: &World, object: Term) -> Option<TripleSet> {
         predicate: None,
         object: Some(object),
     };
-    world.matches(&pattern).ok()
+    let found = world.matches(&pattern);
+    drop(pattern);
+    found.ok()
 }
 
 // The triple of a line of N-Triples; None too where memory is refused.
@@ -191,8 +257,16 @@ fn triple_in(alloc: Global, line: &str) -> Option<Triple> {
     let line = line.strip_suffix(" .")?;
     let (subject, rest) = line.split_once(' ')?;
     let (predicate, object) = rest.split_once(' ')?;
+    triple_of(alloc, subject, predicate, object)
+}
+
+// The triple of three texts; None too where memory is refused.
+fn triple_of(alloc: Global, subject: &str, predicate: &str, object: &str) -> Option<Triple> {
     let subject = term_in(alloc, subject)?;
-    let (predicate, object) = terms_in(alloc, predicate, object)?;
+    let Some((predicate, object)) = terms_in(alloc, predicate, object) else {
+        drop(subject);
+        return None;
+    };
     Some(Triple {
         subject,
         predicate,
@@ -203,7 +277,10 @@ fn triple_in(alloc: Global, line: &str) -> Option<Triple> {
 // The terms of two texts; None too where memory is refused.
 fn terms_in(alloc: Global, first: &str, second: &str) -> Option<(Term, Term)> {
     let first = term_in(alloc, first)?;
-    let second = term_in(alloc, second)?;
+    let Some(second) = term_in(alloc, second) else {
+        drop(first);
+        return None;
+    };
     Some((first, second))
 }
 
