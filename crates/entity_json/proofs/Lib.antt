@@ -1,5 +1,6 @@
 pub mod Arrays
 pub mod LastMembers
+pub mod Entried
 pub mod OnlyKeys
 pub mod SmallNumbers
 pub mod Entities
