@@ -3,19 +3,6 @@
 use crate::pieces::split_lines;
 use std::alloc::{AllocError, Global};
 
-/// The first lines that differ, where something is expected.
-pub fn differing_where_told(
-    alloc: Global,
-    what: &str,
-    expected: &Option<Vec<u8>>,
-    found: &[u8],
-) -> Result<Option<String>, AllocError> {
-    match expected {
-        None => Ok(None),
-        Some(expected) => differing(alloc, what, expected.as_slice(), found),
-    }
-}
-
 /// Two numbers that differ, where one is expected.
 pub fn differing_numbers(
     alloc: Global,
@@ -45,8 +32,10 @@ pub fn differing(
     let number = index.saturating_add(1);
     let expected = line_at(alloc, expected, index)?;
     let found = line_at(alloc, found, index)?;
-    let told = told_lines(alloc, what, number, expected.as_str(), found.as_str())?;
-    Ok(Some(told))
+    let told = told_lines(alloc, what, number, expected.as_str(), found.as_str());
+    drop(expected);
+    drop(found);
+    Ok(Some(told?))
 }
 
 // How many lines at the front are equal.

@@ -18,7 +18,7 @@ mod sections;
 mod spelling;
 
 pub use checking::check;
-pub use differences::{differing, differing_numbers, differing_where_told};
+pub use differences::{differing, differing_numbers};
 pub use filling::filled;
 pub use folder::{CaseFile, case_files};
 pub use parts::{Calls, Expected, Given, Page, Turns, expected_of, given_of, turns_of};

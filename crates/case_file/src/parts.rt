@@ -69,14 +69,12 @@ pub enum Turns {
 // The most bytes of a call where the case doesn't say.
 const BYTES_A_CALL: usize = 4096;
 
-// The names of the sections by which a case is tried with several runs.
-const TURNS: [&str; 6] = [
-    "failing reads",
-    "failing writes",
-    "failing saves",
-    "failing loads",
-    "cut page",
-    "cut resume",
+// The names of the sections by which a case is tried with each call of a kind failing in turn.
+const EACH: [(&str, Turns); 4] = [
+    ("failing reads", Turns::EachRead),
+    ("failing writes", Turns::EachWrite),
+    ("failing saves", Turns::EachSave),
+    ("failing loads", Turns::EachLoad),
 ];
 
 impl Given {
@@ -299,59 +297,52 @@ fn expect_streams(alloc: Global, case: &Case, expected: &mut Expected) -> Result
         .status
         .push_str(text(case, "status").unwrap_or("0"))?;
     push_bytes(alloc, lines(case, "out").unwrap_or(""), &mut expected.out)?;
-    expected.saved = bytes_where_told(alloc, case, "saved")?;
-    Ok(())
+    expect_bytes(alloc, case, "saved", &mut expected.saved)
 }
 
 // Expects what the world has, and the counts.
 fn expect_world(alloc: Global, case: &Case, expected: &mut Expected) -> Result<()> {
-    expected.records = bytes_where_told(alloc, case, "records")?;
-    expected.side = bytes_where_told(alloc, case, "side")?;
-    expected.owners = bytes_where_told(alloc, case, "owners")?;
+    expect_bytes(alloc, case, "records", &mut expected.records)?;
+    expect_bytes(alloc, case, "side", &mut expected.side)?;
+    expect_bytes(alloc, case, "owners", &mut expected.owners)?;
     expected.fetches = count(case, "fetches")?;
     expected.waiting = count(case, "waiting")?;
     Ok(())
 }
 
-// The bytes of a section, where the case has it.
-fn bytes_where_told(alloc: Global, case: &Case, name: &str) -> Result<Option<Vec<u8>>> {
-    match lines(case, name) {
-        None => Ok(None),
-        Some(lines) => Ok(Some(bytes_of(alloc, lines)?)),
+// Expects the bytes of a section, where the case has it.
+fn expect_bytes(
+    alloc: Global,
+    case: &Case,
+    name: &str,
+    expected: &mut Option<Vec<u8>>,
+) -> Result<()> {
+    if let Some(lines) = lines(case, name) {
+        *expected = Some(bytes_of(alloc, lines)?);
     }
+    Ok(())
 }
 
 /// What a case is tried with: at most one thing that is done in turn.
 pub fn turns_of(case: &Case) -> Result<Turns> {
     let mut turns = Turns::Once;
     let mut count = 0u64;
-    for name in TURNS {
-        if let Some(named) = turns_named(case, name)? {
-            turns = named;
+    for (name, each) in &EACH {
+        if text(case, name) == Some("each") {
+            turns = *each;
             count = count.saturating_add(1);
         }
+    }
+    if let Some(rev) = text(case, "cut page") {
+        turns = Turns::EachFront(rev.parse().context("a page's revision")?);
+        count = count.saturating_add(1);
+    }
+    if text(case, "cut resume").is_some() {
+        turns = Turns::EachFrontOfSnapshot;
+        count = count.saturating_add(1);
     }
     if count > 1 {
         bail!("calls that fail, and fronts, are tried one at a time");
     }
     Ok(turns)
-}
-
-// The turns that the section with this name asks for.
-fn turns_named(case: &Case, name: &str) -> Result<Option<Turns>> {
-    let Some(words) = text(case, name) else {
-        return Ok(None);
-    };
-    match (name, words) {
-        ("failing reads", "each") => Ok(Some(Turns::EachRead)),
-        ("failing writes", "each") => Ok(Some(Turns::EachWrite)),
-        ("failing saves", "each") => Ok(Some(Turns::EachSave)),
-        ("failing loads", "each") => Ok(Some(Turns::EachLoad)),
-        ("cut resume", _) => Ok(Some(Turns::EachFrontOfSnapshot)),
-        ("cut page", rev) => {
-            let rev = rev.parse().context("a page's revision")?;
-            Ok(Some(Turns::EachFront(rev)))
-        }
-        _ => Ok(None),
-    }
 }

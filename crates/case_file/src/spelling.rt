@@ -141,9 +141,9 @@ fn push_event(bytes: &mut Vec<u8>, kind: &str, rest: &str) -> Result<()> {
             id,
             "\",\"rev\":",
             rev,
+            ",\"time\":\"",
         ],
     )?;
-    push_str(bytes, ",\"time\":\"")?;
     push_time(bytes, time)?;
     Ok(push_mode(bytes, mode)?)
 }

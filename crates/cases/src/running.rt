@@ -7,8 +7,9 @@ use case_world::{owners, records, side};
 use rdf_term::{List, OutOfMemory, Text};
 use revisions::{MemoryRevisions, RevisionBytes};
 use session::{Ports, Status, run, status_number, status_text};
-use std::alloc::Global;
+use std::alloc::{AllocError, Global};
 use std::hash::RandomState;
+use std::mem;
 use world::World;
 use wq_io::{MemorySink, MemorySource};
 
@@ -24,14 +25,24 @@ type MemoryPorts = Ports<MemorySource, MemoryRevisions, MemorySink, MemorySink>;
 impl Runner for MemoryRunner {
     fn run(&self, alloc: Global, given: &Given, asked: &[u8]) -> Result<Left> {
         let mut ports = ports(alloc, given)?;
-        let (status, world) = run_in_new_world(
-            alloc,
-            self.keys,
-            given.words.as_slice(),
-            &mut ports,
-        )?;
-        left(alloc, &status, &world, &ports, asked)
+        let left = run_over(alloc, self.keys, given, &mut ports, asked);
+        drop(ports);
+        left
     }
+}
+
+// Makes a run over the ports, and says what it left.
+fn run_over(
+    alloc: Global,
+    keys: RandomState,
+    given: &Given,
+    ports: &mut MemoryPorts,
+    asked: &[u8],
+) -> Result<Left> {
+    let (status, world) = run_in_new_world(alloc, keys, given.words.as_slice(), ports)?;
+    let left = left(alloc, &status, &world, ports, asked);
+    drop(world);
+    left
 }
 
 // Makes the top call over a new world: how it ended, and the world that it left. Nothing else stands in this function, since the proof of
@@ -56,8 +67,14 @@ fn left(
     asked: &[u8],
 ) -> Result<Left> {
     let mut left = Left::new(alloc);
-    see_run(alloc, status, ports, &mut left)?;
-    see_world(alloc, world, asked, &mut left)?;
+    if let Err(error) = see_run(alloc, status, ports, &mut left) {
+        drop(left);
+        return Err(error.into());
+    }
+    if let Err(error) = see_world(alloc, world, asked, &mut left) {
+        drop(left);
+        return Err(error);
+    }
     Ok(left)
 }
 
@@ -88,27 +105,57 @@ fn see_world(alloc: Global, world: &World, asked: &[u8], left: &mut Left) -> Res
 fn status_line(alloc: Global, status: &Status) -> Result<String, OutOfMemory> {
     let number = status_number(status);
     let text = status_text(alloc, status)?;
-    let text = text.as_str();
+    let line = numbered(alloc, number, text.as_str());
+    Ok(line?)
+}
+
+// A number, and the text behind it where there is one.
+fn numbered(alloc: Global, number: u8, text: &str) -> Result<String, AllocError> {
     if text.is_empty() {
-        return Ok(format!(in alloc; "{number}")?);
+        return format!(in alloc; "{number}");
     }
-    Ok(format!(in alloc; "{number} {text}")?)
+    format!(in alloc; "{number} {text}")
 }
 
 // The ports over what is given.
 fn ports(alloc: Global, given: &Given) -> Result<MemoryPorts, OutOfMemory> {
+    let mut ports = empty_ports(alloc);
+    let Ok(()) = fill_ports(alloc, given, &mut ports) else {
+        drop(ports);
+        return Err(OutOfMemory);
+    };
+    Ok(ports)
+}
+
+// Ports over nothing, which others replace.
+fn empty_ports(alloc: Global) -> MemoryPorts {
+    Ports {
+        events: MemorySource::new(Vec::new(alloc), 1, List::new(alloc)),
+        revisions: MemoryRevisions::new(List::new(alloc), List::new(alloc)),
+        out: MemorySink::new(alloc, 1, List::new(alloc)),
+        snapshot: MemorySink::new(alloc, 1, List::new(alloc)),
+        resumed: MemorySource::new(Vec::new(alloc), 1, List::new(alloc)),
+    }
+}
+
+// Puts what is given into the ports.
+fn fill_ports(alloc: Global, given: &Given, ports: &mut MemoryPorts) -> Result<(), OutOfMemory> {
     let events = source(alloc, given.input.as_slice(), &given.reads)?;
+    put(&mut ports.events, events);
     let resumed = source(alloc, given.resumed.as_slice(), &given.loads)?;
+    put(&mut ports.resumed, resumed);
     let revisions = revisions(alloc, given)?;
+    put(&mut ports.revisions, revisions);
     let out = sink(alloc, &given.writes)?;
+    put(&mut ports.out, out);
     let snapshot = sink(alloc, &given.saves)?;
-    Ok(Ports {
-        events,
-        revisions,
-        out,
-        snapshot,
-        resumed,
-    })
+    put(&mut ports.snapshot, snapshot);
+    Ok(())
+}
+
+// Puts a port in the place of another, which is dropped.
+fn put<T: Drop>(place: &mut T, port: T) {
+    drop(mem::replace(place, port));
 }
 
 // The input, or the snapshot from which the run goes on.
