@@ -1,10 +1,29 @@
 -- The key comes to a group with room, and so to all blocks.
-use Rattle.std.proofs.Common.{sym, subst}
+use Rattle.std.proofs.Common.{rules, ◌≡◌, ℕ, ◌≤◌, List, [], ◌∷◌, ◌++◌, length, get_or, ◌∙◌, ap, sym, subst, arith}
+use Rattle.std.specs.List.{insert}
 use Rattle.std.proofs.lemmas.Result.{on_ok_weaker}
 use Rattle.block_index.specs.Blocks.{AreFilled, keys_of}
+use Rattle.block_index.specs.Edit.{Edits}
 use Rattle.block_index.specs.Groups.{index_of}
+use Rattle.block_index.proofs.Edited.{edits_first}
 use Rattle.block_index.proofs.Grouped.{filled_group, groups_put, inside_read, put_lifted, room_read}
 use Rattle.block_index.proofs.edit.put_in.Goals as goal
+
+module _ {K : Type 0} where
+  -- the first key of all
+  first_put : (gs put : List (List (List K))) (g b at : ℕ) (key : K) → length gs ≡ 0 → put ≡ gs ++ ((key ∷ []) ∷ []) ∷ [] → index_of gs g b ≤ length (keys_of gs) → at ≤ length (get_or (keys_of gs) (index_of gs g b) [])
+      → Edits (keys_of gs) (keys_of put) (index_of gs g b) (insert (get_or (keys_of gs) (index_of gs g b) []) at key)
+  first_put [] put g b at key none is start within =
+      let first : at ≡ 0 = omega arith in
+      subst (λ ps. Edits [] (keys_of ps) (index_of {K = K} [] g b) (insert [] at key)) (sym is)
+      (edits_first [] (index_of {K = K} [] g b) key (insert [] at key) (omega arith) (λ some. absurd (omega (arith, some))) (ap (λ (n : ℕ). insert [] n key) first))
+  first_put (h ∷ gs) put g b at key none is start within = absurd (omega arith)
+
+pub returns-then-is_empty-clause-ok : goal.returns-then-is_empty-clause-ok
+returns-then-is_empty-clause-ok g c =
+    let gs = c.args.groups.now.items in
+    let none : length gs ≡ 0 = search rules in
+    first_put gs c.push.new.self.items c.args.position.group c.args.position.block c.args.position.at c.args.key none (c.in_ok-push.ensures.items ∙ ap (λ one. gs ++ one ∷ []) c.in_ok-one.ensures) c.requires.start c.requires.within
 
 pub put_in-requires-clause-filled : goal.put_in-requires-clause-filled
 put_in-requires-clause-filled g c =
