@@ -1,7 +1,8 @@
 -- The key comes to a group with room, and so to all blocks.
-use Rattle.std.proofs.Common.{rules, ◌≡◌, ℕ, ◌≤◌, List, [], ◌∷◌, ◌++◌, length, get_or, ◌∙◌, ap, sym, subst, arith}
+use Rattle.std.proofs.Common.{rules, ◌≡◌, ℕ, ◌≤◌, List, [], ◌∷◌, ◌++◌, length, get_or, set, ◌∙◌, ap, sym, subst, arith}
 use Rattle.std.specs.List.{insert}
-use Rattle.std.proofs.lemmas.Result.{on_ok_weaker}
+use Rattle.std.proofs.lemmas.List.{set-get_or}
+use Rattle.std.proofs.lemmas.Result.{on_err_weaker, on_ok_weaker}
 use Rattle.block_index.specs.Blocks.{AreFilled, keys_of}
 use Rattle.block_index.specs.Edit.{Edits}
 use Rattle.block_index.specs.Groups.{index_of}
@@ -45,3 +46,11 @@ returns-clause-ok g c =
 pub returns-clause-groups : goal.returns-clause-groups
 returns-clause-groups g c =
     groups_put c.make_room.new.groups.items c.in_ok-room.room.group c.in_ok-room.room.block (index_of c.args.groups.now.items c.args.position.group c.args.position.block) c.index_mut.result.now c.put_in.new.self c.in_ok-room.ensures.groups c.in_ok-room.ensures.room c.index_mut.ensures.value c.put_in.ensures.grown.0 c.put_in.ensures.grown.1
+
+pub returns-clause-err : goal.returns-clause-err
+returns-clause-err g c =
+    let gs = c.make_room.new.groups.items in
+    let group = c.in_ok-room.room.group in
+    on_err_weaker c.put_in.result
+    (λ same. ap keys_of (ap (set gs group) (same ∙ c.index_mut.ensures.value) ∙ set-get_or gs group c.index_mut.result.now) ∙ c.in_ok-room.ensures.blocks)
+    c.put_in.ensures.err
