@@ -80,12 +80,12 @@ impl Catalog {
         let old = old.rising;
         if let Err(fault) = taken {
             let these = all_in_order(self.alloc, old, met);
-            self.remove_beside(region, these.slices().rising, old, steps);
+            self.undo(region, these, old, steps);
             return Err(fault);
         }
         let Ok(laid) = keys_beside(self.alloc, left, &met) else {
             let these = all_in_order(self.alloc, old, met);
-            self.remove_beside(region, these.slices().rising, old, steps);
+            self.undo(region, these, old, steps);
             return Err(StoreFault::OutOfMemory);
         };
         let KeysBeside { keys, counts, gone } = laid;
@@ -101,7 +101,7 @@ impl Catalog {
                 })
             }
             Err(_) => {
-                self.remove_beside(region, keys.slices().rising, old, steps);
+                self.undo(region, keys, old, steps);
                 Err(StoreFault::OutOfMemory)
             }
         }

@@ -17,7 +17,7 @@ use crate::finding::{Near, known_subject};
 use crate::telling::{Exchange, Sides, Telling};
 use comparison_steps::Steps;
 use rdf_term::OutOfMemory;
-use slot_keys::{Added, KeySlices, Keys, Met, NOWHERE, Seen, in_order, no_keys_met};
+use slot_keys::{Added, KeySlices, Keys, Met, NOWHERE, Seen, all_in_order, no_keys_met};
 use std::sync::ledger::Ledger;
 use text_region::Region;
 use triple_texts::TripleTexts;
@@ -100,10 +100,9 @@ impl Catalog {
         };
         let old = swap.old.rising;
         let taken = self.take_in(region, swap, &mut met, steps);
-        let Met { keys, old_indices } = met;
-        let keys = in_order(self.alloc, old, keys, old_indices.as_slice());
+        let keys = all_in_order(self.alloc, old, met);
         if let Err(fault) = taken {
-            self.remove_beside(region, keys.slices().rising, old, steps);
+            self.undo(region, keys, old, steps);
             return Err(fault);
         }
         let new = keys.slices().rising;
@@ -113,7 +112,7 @@ impl Catalog {
                 Ok(Exchange { keys, change })
             }
             Err(_) => {
-                self.remove_beside(region, keys.slices().rising, old, steps);
+                self.undo(region, keys, old, steps);
                 Err(StoreFault::OutOfMemory)
             }
         }
@@ -172,7 +171,10 @@ impl Catalog {
             };
             let key = match self.add(region, &texts, hints, steps) {
                 Ok(key) => key,
-                Err(fault) => return Err(fault),
+                Err(fault) => {
+                    drop_both(added, seen);
+                    return Err(fault);
+                }
             };
             met.keys.push_reserved(key);
             met.old_indices.push_reserved(NOWHERE);
@@ -181,9 +183,14 @@ impl Catalog {
             seen.remember(texts.object, key.third);
             last = Some(key);
             if added.insert(key).is_err() {
+                drop_both(added, seen);
                 return Err(StoreFault::OutOfMemory);
             }
         }
+        drop_both(added, seen);
         Ok(())
     }
 }
+
+// Drops what was at hand. Each way out of `take_in` calls it, so this drop is proved once.
+fn drop_both(_added: Added, _seen: Seen) {}

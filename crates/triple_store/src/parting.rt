@@ -2,7 +2,9 @@
 
 ghost use Rattle.std.specs.Prelude.{◌≡◌, ◌+◌, ◌<◌, List, length};
 ghost use Rattle.std.specs.FinMap as map;
+ghost use Rattle.rising.specs.Rising.{IsRising};
 ghost use Rattle.rdf_term.specs.declared.triple.Triple.{Triple};
+ghost use Rattle.slot_keys.specs.{KeyCounts.AddKeys, Keys.key_cmp};
 ghost use Rattle.triple_store.specs.{Costs.Costs, PartUpdates.IsPartsExchange, PartUpdates.IsTimedExchange, PartUpdates.store_of};
 ghost use Rattle.triple_store.specs.{Stored.AreKeysOf, Stored.IsStored, Stored.counts_in, Telling.if_told};
 ghost use Rattle.triple_store.specs.{Times.AreTimesOf, Times.Becomes, Updates.AreStored, Updates.KeepsRest, Updates.MayCome};
@@ -15,6 +17,7 @@ use crate::part_updates::{PartSwap, TimedExchange};
 use crate::telling::Telling;
 use comparison_steps::Steps;
 use slot_keys::{KeySlices, Left, copied, no_counts, times_after};
+use std::alloc::Global;
 use std::sync::ledger::Ledger;
 use text_region::Region;
 use triple_texts::TripleTexts;
@@ -50,21 +53,7 @@ impl Catalog {
         };
         let new = swap.come;
         match self.exchange_beside(region, Beside { left, new }, telling, steps) {
-            Ok(
-                Swapped {
-                    keys,
-                    counts,
-                    change,
-                    met,
-                },
-            ) => {
-                let times = times_after(self.alloc, keys.slices(), counts, met.keys.as_slice());
-                Ok(Some(TimedExchange {
-                    keys,
-                    times,
-                    change,
-                }))
-            }
+            Ok(done) => Ok(Some(timed(self.alloc, done))),
             Err(fault) => Err(fault),
         }
     }
@@ -91,21 +80,7 @@ impl Catalog {
         let counts = none.as_slice();
         let left = Left { keys: old, counts };
         match self.exchange_beside(region, Beside { left, new }, telling, steps) {
-            Ok(
-                Swapped {
-                    keys,
-                    counts,
-                    change,
-                    met,
-                },
-            ) => {
-                let times = times_after(self.alloc, keys.slices(), counts, met.keys.as_slice());
-                Ok(TimedExchange {
-                    keys,
-                    times,
-                    change,
-                })
-            }
+            Ok(done) => Ok(timed(self.alloc, done)),
             Err(fault) => Err(fault),
         }
     }
@@ -128,5 +103,27 @@ impl Catalog {
             Some(times) => times,
             None => Vec::new(self.alloc),
         }
+    }
+}
+
+// What an exchange gave, with the times of its keys: what is left of each count, and once more for each time that its key was met.
+fn timed(alloc: Global, done: Swapped) -> TimedExchange
+    requires rising { IsRising key_cmp done.keys.rising.items }
+    requires as_many { length done.counts.items ≡ length done.keys.rising.items }
+    ensures keys { result.keys ≡ done.keys }
+    ensures change { result.change ≡ done.change }
+    ensures times { 0 < length result.times.items → AddKeys done.keys.rising.items done.counts.items result.times.items done.met.keys.items }
+{
+    let Swapped {
+        keys,
+        counts,
+        change,
+        met,
+    } = done;
+    let times = times_after(alloc, keys.slices(), counts, met.keys.as_slice());
+    TimedExchange {
+        keys,
+        times,
+        change,
     }
 }

@@ -15,10 +15,20 @@ pub(crate) fn read_row(alloc: Global, row: &TripleText<'_>) -> Result<Triple, Ou
     requires { HasCanonicalTexts row.now }
     ensures { IfOk result (λ triple. triple ≡ triple_of row.now) }
 {
+    let subject = read_back(alloc, row.subject)?;
+    let Ok(predicate) = read_back(alloc, row.predicate) else {
+        drop(subject);
+        return Err(OutOfMemory);
+    };
+    let Ok(object) = read_back(alloc, row.object) else {
+        drop(predicate);
+        drop(subject);
+        return Err(OutOfMemory);
+    };
     Ok(Triple {
-        subject: read_back(alloc, row.subject)?,
-        predicate: read_back(alloc, row.predicate)?,
-        object: read_back(alloc, row.object)?,
+        subject,
+        predicate,
+        object,
     })
 }
 

@@ -14,7 +14,7 @@ use crate::catalog::Catalog;
 use crate::telling::{Change, Sides, Telling};
 use comparison_steps::Steps;
 use rdf_term::OutOfMemory;
-use slot_keys::{Key, find_from};
+use slot_keys::{Key, Keys, find_from};
 use std::sync::ledger::Ledger;
 use text_region::Region;
 
@@ -66,6 +66,24 @@ impl Catalog {
         let change = self.change_if(telling, region, Sides { old, new: &[] }, steps)?;
         self.remove_beside(region, old, &[], steps);
         Ok(change)
+    }
+
+    // Takes one owner away from the triples of keys that came, but for the old ones. The keys are dropped. It takes no memory.
+    pub(crate) fn undo<L: Ledger>(
+        &mut self,
+        region: &mut Region,
+        came: Keys,
+        old: &[Key],
+        steps: &mut Steps<L>,
+    )
+        requires stored { IsStored self.old region.old }
+        requires rising { IsRising key_cmp came.rising.items }
+        requires others { IsRising key_cmp old.now }
+        requires there { (key : TheKey) → has key_cmp key came.rising.items ≡ true → is_key self.old key ≡ true }
+        ensures removes { Removes self.old region.old self.new region.new (difference key_cmp came.rising.items old.now) }
+        ensures cost { Costs (map.len self.old.index) (map.len self.new.index) 0 (length came.rising.items) steps.old steps.new }
+    {
+        self.remove_beside(region, came.slices().rising, old, steps);
     }
 
     // Takes one owner away from the triples of these keys, but for the keys that are among others. It takes no memory.

@@ -4,7 +4,7 @@ use Rattle.std.specs.List.{insert}
 use Rattle.std.proofs.lemmas.List.{get_or_read}
 use Rattle.block_index.specs.Groups.{least}
 use Rattle.block_index.proofs.Grouped.{sized_at}
-use Rattle.block_index.proofs.Regrouped.{blocks_split, groups_split, place_high}
+use Rattle.block_index.proofs.Regrouped.{blocks_split, groups_split, place_high, place_low}
 use Rattle.block_index.proofs.edit.make_room.Goals as goal
 
 pub split-requires : goal.split-requires
@@ -26,6 +26,11 @@ returns-then-position-lt-HALF_BLOCKS-clause-blocks g c =
 pub returns-then-position-lt-HALF_BLOCKS-clause-groups : goal.returns-then-position-lt-HALF_BLOCKS-clause-groups
 returns-then-position-lt-HALF_BLOCKS-clause-groups g c =
     groups_split c.args.groups.now.items c.insert.new.self.items c.args.position.group c.split.new.self c.in_ok-upper.upper c.requires.groups c.requires.inside.0 c.in_ok-upper.ensures.low c.in_ok-upper.ensures.high
+    (c.in_ok-insert.ensures.items ∙ ap (λ hs. insert (set hs c.args.position.group c.split.new.self) (c.args.position.group + 1) c.in_ok-upper.upper) c.reserve.ensures.items)
+
+pub returns-then-position-lt-HALF_BLOCKS-clause-room : goal.returns-then-position-lt-HALF_BLOCKS-clause-room
+returns-then-position-lt-HALF_BLOCKS-clause-room g c =
+    place_low c.args.groups.now.items c.insert.new.self.items c.args.position.group c.args.position.block c.split.new.self c.in_ok-upper.upper c.requires.inside.0 c.in_ok-upper.ensures.low c.if-position-lt-HALF_BLOCKS.true
     (c.in_ok-insert.ensures.items ∙ ap (λ hs. insert (set hs c.args.position.group c.split.new.self) (c.args.position.group + 1) c.in_ok-upper.upper) c.reserve.ensures.items)
 
 pub returns-clause-blocks : goal.returns-clause-blocks

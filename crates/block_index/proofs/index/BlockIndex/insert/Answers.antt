@@ -5,7 +5,7 @@ use Rattle.std.specs.BTreeSet.{insert_key}
 use Rattle.block_index.specs.Blocks.{keys_of, ChangesTwo}
 use Rattle.block_index.specs.Groups.{index_of}
 use Rattle.block_index.specs.Search.{Stands}
-use Rattle.block_index.proofs.Edited.{put_is, IsIndex-put, changes_two}
+use Rattle.block_index.proofs.Edited.{put_is, IsIndex-put, changes_none, changes_two}
 use Rattle.block_index.proofs.Located.{stands_same}
 use Rattle.block_index.proofs.Standing.{found_is, insert_key_there}
 use Rattle.block_index.proofs.index.BlockIndex.insert.Goals as goal
@@ -24,6 +24,9 @@ returns-then-position-clause-keys g c =
     sym (insert_key_there g.met.K.Ranked.total c.args.key c.args.self.now _ _
     (subst (λ bs. Stands g.K.Ranked.cmp c.args.key bs (index_of gs p.group p.block) p.at true) c.self.view_is
     (stands_same g.K.Ranked.cmp c.args.key c.deref.result.now gs p.group p.block p.at p.found true c.deref.ensures.value c.if-position.true c.locate-position.ensures.stands)))
+
+pub returns-then-position-clause-blocks : goal.returns-then-position-clause-blocks
+returns-then-position-clause-blocks g c = changes_none c.args.self.now
 
 pub invariant_of-self-2 : goal.invariant_of-self-2
 invariant_of-self-2 g c =

@@ -1,5 +1,5 @@
 -- The keys that are left stay, and what comes is taken in beside them.
-use Rattle.std.proofs.Common.{◌<◌, length, ap, refl, sym, ◌∙◌}
+use Rattle.std.proofs.Common.{◌<◌, length, ap, refl, ◌∙◌}
 use Rattle.std.proofs.lemmas.List.{length-map}
 use Rattle.slot_keys.specs.KeyCounts.{MovesKeys, count_beside, counted_keys}
 use Rattle.slot_keys.proofs.Staying.{moves_beside}
@@ -8,28 +8,27 @@ use Rattle.triple_store.proofs.Multitude.{cost_of_all, stays_few}
 use Rattle.triple_store.proofs.Rooming.{same_fault}
 use Rattle.triple_store.proofs.catalog.Catalog.exchange_parts.Goals as goal
 
-pub times_after-times-requires-clause-rising : goal.times_after-times-requires-clause-rising
-times_after-times-requires-clause-rising g c =
+pub timed-requires-clause-rising : goal.timed-requires-clause-rising
+timed-requires-clause-rising g c =
     let had = c.args.swap.keys.rising.now in
     let left = c.as_slice-counts.result.now in
     let less = rw (c.in-Ok.ensures, ← c.as_slice-counts.ensures.value) at c.in-Some.ensures in
     let these = new_keys _ _ had (counted_keys had left) c.args.swap.times.now left c.args.swap.gone.now c.args.swap.come.now c.requires.stored c.requires.had.there less refl _ _ _ c.in-Ok-exchange_beside.ensures.keys in
-    rw c.slices.ensures these.rising
+    these.rising
 
-pub times_after-times-requires-clause-as_many : goal.times_after-times-requires-clause-as_many
-times_after-times-requires-clause-as_many g c = ap length c.in-Ok-exchange_beside.ensures.counts ∙ length-map c.in-Ok-exchange_beside.field-0.keys.rising.items (count_beside c.args.swap.keys.rising.now c.as_slice-counts.result.now) ∙ sym (ap length c.slices.ensures)
+pub timed-requires-clause-as_many : goal.timed-requires-clause-as_many
+timed-requires-clause-as_many g c = ap length c.in-Ok-exchange_beside.ensures.counts ∙ length-map c.in-Ok-exchange_beside.done.keys.rising.items (count_beside c.args.swap.keys.rising.now c.as_slice-counts.result.now)
 
 pub returns-in-Ok-exchange_beside-clause-exchanged : goal.returns-in-Ok-exchange_beside-clause-exchanged
 returns-in-Ok-exchange_beside-clause-exchanged g c =
     let had = c.args.swap.keys.rising.now in
     let left = c.as_slice-counts.result.now in
     let less = rw (c.in-Ok.ensures, ← c.as_slice-counts.ensures.value) at c.in-Some.ensures in
-    let added = rw (c.slices.ensures, c.as_slice.ensures.value) at c.times_after-times.ensures in
-    let moves : 0 < length c.times_after-times.result.items → MovesKeys had left c.in-Ok-exchange_beside.field-0.keys.rising.items c.times_after-times.result.items c.in-Ok-exchange_beside.field-0.met.keys.items = λ some.
-    moves_beside had left _ _ _ _ c.in-Ok-exchange_beside.ensures.counts (added some) in
+    let moves : 0 < length c.timed.result.times.items → MovesKeys had left c.timed.result.keys.rising.items c.timed.result.times.items c.in-Ok-exchange_beside.done.met.keys.items = λ some.
+    rw c.timed.ensures.keys (moves_beside had left _ _ _ _ c.in-Ok-exchange_beside.ensures.counts (c.timed.ensures.times some)) in
     record {
       done = parts_done _ _ had (counted_keys had left) c.args.swap.times.now left c.args.swap.gone.now c.args.swap.come.now c.requires.stored c.requires.had.there less refl
-          _ _ c.args.telling _ _ c.in-Ok-exchange_beside.ensures.stored c.in-Ok-exchange_beside.ensures.ok c.in-Ok-exchange_beside.ensures.told c.in-Ok-exchange_beside.ensures.keys c.in-Ok-exchange_beside.ensures.within c.in-Ok-exchange_beside.ensures.keeps c.in-Ok-exchange_beside.ensures.again moves c.in-Ok-exchange_beside.ensures.met c.in-Ok-exchange_beside.ensures.along;
+          _ _ c.args.telling c.timed.result _ c.in-Ok-exchange_beside.ensures.stored c.in-Ok-exchange_beside.ensures.ok (rw c.timed.ensures.change c.in-Ok-exchange_beside.ensures.told) (rw c.timed.ensures.keys c.in-Ok-exchange_beside.ensures.keys) c.in-Ok-exchange_beside.ensures.within c.in-Ok-exchange_beside.ensures.keeps c.in-Ok-exchange_beside.ensures.again moves c.in-Ok-exchange_beside.ensures.met c.in-Ok-exchange_beside.ensures.along;
       none = tt;
       err = tt;
       full = λ e. absurd cc;

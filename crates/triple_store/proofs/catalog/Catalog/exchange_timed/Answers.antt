@@ -14,16 +14,16 @@ use Rattle.triple_store.proofs.catalog.Catalog.exchange_timed.Goals as goal
 pub exchange_beside-requires-clause-as_many : goal.exchange_beside-requires-clause-as_many
 exchange_beside-requires-clause-as_many g c = ap length (c.as_slice-counts.ensures.value ∙ c.in-Ok.ensures) ∙ length-replicate _ 0
 
-pub times_after-times-requires-clause-rising : goal.times_after-times-requires-clause-rising
-times_after-times-requires-clause-rising g c =
+pub timed-requires-clause-rising : goal.timed-requires-clause-rising
+timed-requires-clause-rising g c =
     let had = c.args.swap.old.rising.now in
     let nothing = counted_zeros had _ c.as_slice-counts.result.now (c.as_slice-counts.ensures.value ∙ c.in-Ok.ensures) in
     let none = subst (λ (keys : List Key). StandFor c.args.self.now c.args.region.now keys []) (sym nothing) (stand_nothing c.args.self.now c.args.region.now) in
     let are = c.in-Ok-exchange_beside.ensures.keys [] none in
-    rw c.slices.ensures are.rising
+    are.rising
 
-pub times_after-times-requires-clause-as_many : goal.times_after-times-requires-clause-as_many
-times_after-times-requires-clause-as_many g c = ap length c.in-Ok-exchange_beside.ensures.counts ∙ length-map c.in-Ok-exchange_beside.field-0.keys.rising.items (count_beside c.args.swap.old.rising.now c.as_slice-counts.result.now) ∙ sym (ap length c.slices.ensures)
+pub timed-requires-clause-as_many : goal.timed-requires-clause-as_many
+timed-requires-clause-as_many g c = ap length c.in-Ok-exchange_beside.ensures.counts ∙ length-map c.in-Ok-exchange_beside.done.keys.rising.items (count_beside c.args.swap.old.rising.now c.as_slice-counts.result.now)
 
 pub returns-in-Ok-exchange_beside-clause-exchanged : goal.returns-in-Ok-exchange_beside-clause-exchanged
 returns-in-Ok-exchange_beside-clause-exchanged g c =
@@ -31,15 +31,14 @@ returns-in-Ok-exchange_beside-clause-exchanged g c =
     let nothing = counted_zeros had _ c.as_slice-counts.result.now (c.as_slice-counts.ensures.value ∙ c.in-Ok.ensures) in
     let none = subst (λ (keys : List Key). StandFor c.args.self.now c.args.region.now keys []) (sym nothing) (stand_nothing c.args.self.now c.args.region.now) in
     let are = c.in-Ok-exchange_beside.ensures.keys [] none in
-    let known = rw (c.slices.ensures, c.as_slice.ensures.value) at c.times_after-times.ensures in
-    let zeros = zero_counts (count_beside had c.as_slice-counts.result.now) (none_beside had _ c.as_slice-counts.result.now (c.as_slice-counts.ensures.value ∙ c.in-Ok.ensures)) c.in-Ok-exchange_beside.field-0.keys.rising.items _ c.in-Ok-exchange_beside.ensures.counts in
-    let as_many = ap length c.in-Ok-exchange_beside.ensures.counts ∙ length-map c.in-Ok-exchange_beside.field-0.keys.rising.items (count_beside had c.as_slice-counts.result.now) in
+    let zeros = zero_counts (count_beside had c.as_slice-counts.result.now) (none_beside had _ c.as_slice-counts.result.now (c.as_slice-counts.ensures.value ∙ c.in-Ok.ensures)) c.in-Ok-exchange_beside.done.keys.rising.items _ c.in-Ok-exchange_beside.ensures.counts in
+    let as_many = ap length c.in-Ok-exchange_beside.ensures.counts ∙ length-map c.in-Ok-exchange_beside.done.keys.rising.items (count_beside had c.as_slice-counts.result.now) in
     record {
       ok = λ gone its. c.in-Ok-exchange_beside.ensures.ok gone [] its none;
-      told = c.in-Ok-exchange_beside.ensures.told;
+      told = rw c.timed.ensures.change c.in-Ok-exchange_beside.ensures.told;
       err = tt;
-      keys = are;
-      times = λ some. times_by_keys _ _ _ _ _ _ _ c.in-Ok-exchange_beside.ensures.stored are c.in-Ok-exchange_beside.ensures.met c.in-Ok-exchange_beside.ensures.along as_many zeros (known some);
+      keys = rw c.timed.ensures.keys are;
+      times = λ some. rw c.timed.ensures.keys (times_by_keys _ _ _ _ _ _ _ c.in-Ok-exchange_beside.ensures.stored are c.in-Ok-exchange_beside.ensures.met c.in-Ok-exchange_beside.ensures.along as_many zeros (c.timed.ensures.times some));
       full = λ e. absurd cc;
       within = c.in-Ok-exchange_beside.ensures.within [] none;
     }
