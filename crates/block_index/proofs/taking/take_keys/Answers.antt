@@ -45,10 +45,10 @@ loop-key-preserved g c =
     let yes = not_above (R x to) (sym (c.is_gt.ensures ∙ ap is_gt c.rank.ensures.value) ∙ c.if-is_gt.false) in
     let more = ap length c.in_ok-push.ensures.items ∙ length-append taken (x ∷ []) in (
       λ rest. c.loop-key.invariant.0 rest
-      ∙ ap (λ l. taken ++ up_to R to (l ++ rest)) cut
-      ∙ ap (λ b. taken ++ cond b (x ∷ up_to R to (left ++ rest)) []) yes
-      ∙ sym (append_assoc taken (x ∷ []) (up_to R to (left ++ rest)))
-      ∙ ap (λ l. l ++ up_to R to (left ++ rest)) (sym c.in_ok-push.ensures.items),
+          ∙ ap (λ l. taken ++ up_to R to (l ++ rest)) cut
+          ∙ ap (λ b. taken ++ cond b (x ∷ up_to R to (left ++ rest)) []) yes
+          ∙ sym (append_assoc taken (x ∷ []) (up_to R to (left ++ rest)))
+          ∙ ap (λ l. l ++ up_to R to (left ++ rest)) (sym c.in_ok-push.ensures.items),
       omega (arith, more, c.rank.ensures.step),
       omega (arith, c.rank.ensures.step),
     )

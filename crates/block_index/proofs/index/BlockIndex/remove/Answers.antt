@@ -47,8 +47,8 @@ overflow_sub-self g c =
     let gs = c.self.inside.groups.items in
     let p = c.locate-position.result in
     let some = (IsIndex-taken g.met.K.Ranked.total c.args.key (keys_of gs) (keys_of c.take_out.new.groups.items) (index_of gs p.group p.block) p.at c.self.inside.count c.self.invariant.index
-        (stands_same g.K.Ranked.cmp c.args.key c.deref.result.now gs p.group p.block p.at p.found true c.deref.ensures.value (not-false p.found c.if-not-position.false) c.locate-position.ensures.stands)
-        c.take_out.ensures.edits).0 in
+    (stands_same g.K.Ranked.cmp c.args.key c.deref.result.now gs p.group p.block p.at p.found true c.deref.ensures.value (not-false p.found c.if-not-position.false) c.locate-position.ensures.stands)
+    c.take_out.ensures.edits).0 in
     omega (arith, some)
 
 pub invariant_of-self : goal.invariant_of-self
