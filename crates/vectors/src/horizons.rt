@@ -29,18 +29,27 @@ fn take(rt: &impl Abort, buffer: &mut Buffer, event: Event, answer: Taken) -> Re
     Ok(())
 }
 
-#[test]
-fn what_is_below_the_floor_is_forgotten(rt: HostRuntime) -> Result<(), Fail> {
-    let mut buffer = Buffer::new(rt.alloc())?;
-    buffer.set_horizon(0);
-    take(&rt, &mut buffer, edit(1, 1), Taken::New)?;
-    take(&rt, &mut buffer, edit(2, 2), Taken::New)?;
+// Raises the floor of a buffer with a horizon of 0 over what it remembers.
+fn check_floor(rt: &impl Abort, buffer: &mut Buffer) -> Result<(), Fail>
+    requires { buffer.old.closed ≡ false }
+{
+    take(rt, buffer, edit(1, 1), Taken::New)?;
+    take(rt, buffer, edit(2, 2), Taken::New)?;
     assert_eq!(rt; buffer.remembered(), 2);
 
     buffer.raise(2);
     assert_eq!(rt; buffer.remembered(), 1);
-    take(&rt, &mut buffer, edit(2, 2), Taken::Repeat)?;
-    take(&rt, &mut buffer, edit(1, 1), Taken::Late)?;
+    take(rt, buffer, edit(2, 2), Taken::Repeat)?;
+    take(rt, buffer, edit(1, 1), Taken::Late)?;
     assert_eq!(rt; buffer.remembered(), 1);
     Ok(())
+}
+
+#[test]
+fn what_is_below_the_floor_is_forgotten(rt: HostRuntime) -> Result<(), Fail> {
+    let mut buffer = Buffer::new(rt.alloc())?;
+    buffer.set_horizon(0);
+    let checked = check_floor(&rt, &mut buffer);
+    drop(buffer);
+    checked
 }
