@@ -60,8 +60,8 @@ fn is_full_for(rt: &impl Abort, pool: &mut Pool, region: &mut Region, term: &Ter
     let before = pool.find(region, term);
     match pool.intern(region, term) {
         Ok(slot) => {
-            assert_eq!(rt; before.unwrap_or(slot), slot);
-            assert_eq!(rt; pool.find(region, term), Some(slot));
+            let found = (before.unwrap_or(slot), pool.find(region, term));
+            check(rt, found, (slot, Some(slot)), "a term that was or is there");
             Some(false)
         }
         Err(PoolFault::Full) => Some(true),
@@ -98,6 +98,22 @@ fn is_full_for_call(
     Some(false)
 }
 
+// Checks whether the pool was full and has the term, and how many terms it has where it wasn't full.
+fn check_row(
+    rt: &impl Abort,
+    found: (Option<bool>, bool),
+    len: u32,
+    row: &str,
+    step: &str,
+) -> Result<(), Fail> {
+    let (count, there) = halves(row, " ")?;
+    check(rt, found, (Some(count == "full"), there == "there"), step);
+    if count != "full" {
+        check(rt, len, count.parse::<u32>()?, step);
+    }
+    Ok(())
+}
+
 // Checks one step.
 fn check_step(
     rt: &(impl Abort + Alloc<A = Global>),
@@ -110,17 +126,11 @@ fn check_step(
 {
     let (sign, row) = halves(step, " ")?;
     let (text, row) = halves(row, " ")?;
-    let (want, there) = halves(row, " ")?;
     let term = term_of(rt.alloc(), text).ok_or("a term, or memory")?;
     let full = is_full_for_call(rt, pool, region, sign, &term);
-    let found = pool.find(region, &term).is_some();
+    let there = pool.find(region, &term).is_some();
     drop(term);
-    check(rt, full, Some(want == "full"), step);
-    check(rt, found, there == "there", step);
-    if want != "full" {
-        check(rt, pool.len(), want.parse::<u32>()?, step);
-    }
-    Ok(())
+    check_row(rt, (full, there), pool.len(), row, step)
 }
 
 // Checks all steps in turn.
