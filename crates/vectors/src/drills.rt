@@ -123,14 +123,23 @@ fn counts_of_page(
     Ok(counts)
 }
 
+// Checks that a revision of the item's page has one label and so many statements.
+fn check_page(
+    rt: &(impl Abort + AllocGlobal),
+    revisions: &mut DrillRevisions,
+    rev: u64,
+    statements: usize,
+) -> Result<(), Fail> {
+    let page = revisions.fetch(rt.alloc(), "Q1", rev)?;
+    let found = counts_of_page(rt.alloc(), page.as_slice());
+    drop(page);
+    assert_eq!(rt; found?, Some((item(1), 1, statements)), "of {rev}");
+    Ok(())
+}
+
 #[test]
 fn pages_are_documents(rt: HostRuntime) -> Result<(), Fail> {
     let mut revisions = DrillRevisions::new(1);
-    for (rev, statements) in [(1, 0), (2, 1)] {
-        let page = revisions.fetch(rt.alloc(), "Q1", rev)?;
-        let found = counts_of_page(rt.alloc(), page.as_slice());
-        drop(page);
-        assert_eq!(rt; found?, Some((item(1), 1, statements)), "of {rev}");
-    }
-    Ok(())
+    check_page(&rt, &mut revisions, 1, 0)?;
+    check_page(&rt, &mut revisions, 2, 1)
 }

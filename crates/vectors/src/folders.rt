@@ -64,14 +64,17 @@ fn remove_page(rt: &impl Files) -> io::Result<()> {
     fs::remove_dir(rt, "Q4")
 }
 
+// How many bytes a fetch of the page gives.
+fn fetched_length(rt: &(impl AllocGlobal + Files)) -> Result<usize, NoRevision> {
+    let bytes = Folder::new(rt).fetch(rt.alloc(), "Q4", 1)?;
+    Ok(bytes.len())
+}
+
 // Of a page that is too large a fetch gives one byte more than a page may have.
 #[test]
 fn of_a_large_page(rt: HostRuntime) -> Result<(), Fail> {
     make_page(&rt, 8_388_610)?;
-    let length = Folder::new(&rt)
-        .fetch(rt.alloc(), "Q4", 1)
-        .map(|bytes| bytes.len());
-    check(&rt, length, Ok(8_388_609), "Q4");
+    check(&rt, fetched_length(&rt), Ok(8_388_609), "Q4");
     remove_page(&rt)?;
     Ok(())
 }

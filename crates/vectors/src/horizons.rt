@@ -2,6 +2,7 @@
 
 ghost use Rattle.std.specs.Prelude.{◌≡◌, false};
 
+use crate::checks::check;
 use entity_model::{EntityId, Event, IdKind, Kind};
 use reorder_buffer::{Buffer, Taken};
 use std::process::Abort;
@@ -35,13 +36,18 @@ fn check_floor(rt: &impl Abort, buffer: &mut Buffer) -> Result<(), Fail>
 {
     take(rt, buffer, edit(1, 1), Taken::New)?;
     take(rt, buffer, edit(2, 2), Taken::New)?;
-    assert_eq!(rt; buffer.remembered(), 2);
+    check(rt, buffer.remembered(), 2, "two events");
 
     buffer.raise(2);
-    assert_eq!(rt; buffer.remembered(), 1);
+    check(
+        rt,
+        buffer.remembered(),
+        1,
+        "two events, of which one is below the floor",
+    );
     take(rt, buffer, edit(2, 2), Taken::Repeat)?;
     take(rt, buffer, edit(1, 1), Taken::Late)?;
-    assert_eq!(rt; buffer.remembered(), 1);
+    check(rt, buffer.remembered(), 1, "both events again");
     Ok(())
 }
 

@@ -111,8 +111,10 @@ fn check_block(rt: &impl Abort, region: &mut Region, text: &[u8], class: u8) -> 
 fn check_blocks(rt: &impl Abort, region: &mut Region, text: &[u8]) -> Result<(), Fail> {
     for row in LENGTHS.lines() {
         let (length, class) = halves(row, " ")?;
-        if let Some(front) = text.get(..length.parse()?) {
-            check_block(rt, region, front, class.parse()?)?;
+        let length: usize = length.parse()?;
+        let class = class.parse()?;
+        if let Some(front) = text.get(..length) {
+            check_block(rt, region, front, class)?;
         }
     }
     Ok(())
