@@ -133,7 +133,8 @@ fn check_page(
     let page = revisions.fetch(rt.alloc(), "Q1", rev)?;
     let found = counts_of_page(rt.alloc(), page.as_slice());
     drop(page);
-    assert_eq!(rt; found?, Some((item(1), 1, statements)), "of {rev}");
+    let want = Some((item(1), 1, statements));
+    check(rt, (rev, found?), (rev, want), "Q1");
     Ok(())
 }
 
