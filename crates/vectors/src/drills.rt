@@ -2,11 +2,14 @@
 
 ghost use Rattle.drill.specs.Drill.{IsSize};
 
+use crate::checks::{check, halves};
+use crate::folders::check_fetch;
 use delivery::Delivery;
 use drill::{DrillRevisions, deliveries};
-use entity_json::document;
+use entity_json::{DocumentFault, document};
 use entity_model::{Document, EntityId, IdKind, Kind};
 use revisions::{NoRevision, Revisions};
+use std::alloc::Global;
 use std::process::Abort;
 use std::test::Fail;
 
@@ -29,6 +32,25 @@ fn summary(delivery: &Delivery, id: EntityId) -> Option<(Option<Kind>, u64, i64)
     }
 }
 
+// Checks the summary of each delivery of the item.
+fn check_summaries(
+    rt: &impl Abort,
+    number: u32,
+    found: &[Delivery],
+    want: &[(Option<Kind>, u64, i64)],
+) {
+    check(
+        rt,
+        (number, found.len()),
+        (number, want.len()),
+        "deliveries",
+    );
+    for (delivery, row) in found.iter().zip(want) {
+        let summary = summary(delivery, item(number));
+        check(rt, (number, summary), (number, Some(*row)), "a delivery");
+    }
+}
+
 // The item's deliveries are to be these.
 fn check_deliveries(
     rt: &(impl Abort + AllocGlobal),
@@ -38,10 +60,8 @@ fn check_deliveries(
     requires { IsSize number }
 {
     let list = deliveries(rt.alloc(), number)?;
-    assert_eq!(rt; list.len(), want.len(), "of {number}");
-    for (delivery, row) in list.as_slice().iter().zip(want) {
-        assert_eq!(rt; summary(delivery, item(number)), Some(*row), "of {number}");
-    }
+    check_summaries(rt, number, list.as_slice(), want);
+    drop(list);
     Ok(())
 }
 
@@ -64,71 +84,63 @@ fn deliveries_of_items(rt: HostRuntime) -> Result<(), Fail> {
     check_deliveries(&rt, 10, &[later, earlier, later, deletion, watermark, late])
 }
 
-// What a fetch gives is to be this.
-fn check_fetch(
-    rt: &(impl Abort + AllocGlobal),
-    revisions: &mut DrillRevisions,
-    place: &str,
-    rev: u64,
-    want: Result<&str, NoRevision>,
-) {
-    let found = revisions.fetch(rt.alloc(), place, rev);
-    let found = match &found {
-        Ok(bytes) => Ok(bytes.as_slice()),
-        Err(why) => Err(*why),
-    };
-    let want = match want {
-        Ok(text) => Ok(text.as_bytes()),
-        Err(why) => Err(why),
-    };
-    assert_eq!(rt; found, want, "{place}, {rev}");
-}
+// The place of a page, which may be empty, its revision and the page, one row a line.
+const PAGES: &str =
+    r#"Q1 1 {"type":"item","id":"Q1","labels":{"en":{"language":"en","value":"item 1"}}}
+Q1 2 {"type":"item","id":"Q1","labels":{"en":{"language":"en","value":"item 1"}},"claims":{"P1":[{"mainsnak":{"snaktype":"value","property":"P1","datavalue":{"type":"quantity","value":{"amount":"+1","unit":"1"}}},"id":"Q1$1","rank":"normal","references":[{"hash":"1","snaks":{"P2":[{"snaktype":"value","property":"P2","datavalue":{"type":"string","value":"source 1"}}]}}]}]}}
+ 20 {"type":"item","id":"Q10","labels":{"en":{"language":"en","value":"item 10"}},"claims":{"P1":[{"mainsnak":{"snaktype":"value","property":"P1","datavalue":{"type":"quantity","value":{"amount":"+3","unit":"1"}}},"id":"Q10$1","rank":"normal","references":[{"hash":"1","snaks":{"P2":[{"snaktype":"value","property":"P2","datavalue":{"type":"string","value":"source 1"}}]}}]}]}}"#;
 
 #[test]
-fn pages_of_revisions(rt: HostRuntime) {
+fn pages_of_revisions(rt: HostRuntime) -> Result<(), Fail> {
     let mut revisions = DrillRevisions::new(10);
-    for (place, rev, want) in [
-        (
-            "Q1",
-            1,
-            Ok(r#"{"type":"item","id":"Q1","labels":{"en":{"language":"en","value":"item 1"}}}"#),
-        ),
-        (
-            "Q1",
-            2,
-            Ok(
-                r#"{"type":"item","id":"Q1","labels":{"en":{"language":"en","value":"item 1"}},"claims":{"P1":[{"mainsnak":{"snaktype":"value","property":"P1","datavalue":{"type":"quantity","value":{"amount":"+1","unit":"1"}}},"id":"Q1$1","rank":"normal","references":[{"hash":"1","snaks":{"P2":[{"snaktype":"value","property":"P2","datavalue":{"type":"string","value":"source 1"}}]}}]}]}}"#,
-            ),
-        ),
-        (
-            "",
-            20,
-            Ok(
-                r#"{"type":"item","id":"Q10","labels":{"en":{"language":"en","value":"item 10"}},"claims":{"P1":[{"mainsnak":{"snaktype":"value","property":"P1","datavalue":{"type":"quantity","value":{"amount":"+3","unit":"1"}}},"id":"Q10$1","rank":"normal","references":[{"hash":"1","snaks":{"P2":[{"snaktype":"value","property":"P2","datavalue":{"type":"string","value":"source 1"}}]}}]}]}}"#,
-            ),
-        ),
-        ("Q1", 0, Err(NoRevision::Missing)),
-        ("Q10", 21, Err(NoRevision::Missing)),
-        ("Q1", 18_446_744_073_709_551_615, Err(NoRevision::Missing)),
-    ] {
-        check_fetch(&rt, &mut revisions, place, rev, want);
+    for row in PAGES.lines() {
+        let (place, row) = halves(row, " ")?;
+        let (rev, page) = halves(row, " ")?;
+        check_fetch(&rt, &mut revisions, place, rev.parse()?, Ok(page));
     }
+    for (place, rev) in [("Q1", 0), ("Q10", 21), ("Q1", u64::MAX)] {
+        check_fetch(&rt, &mut revisions, place, rev, Err(NoRevision::Missing));
+    }
+    Ok(())
+}
+
+// The id of an entity, and how many labels and statements it has.
+fn counts(document: &Document) -> Option<(EntityId, usize, usize)> {
+    match document {
+        Document::Entity(entity) => Some((entity.id, entity.labels.len(), entity.statements.len())),
+        Document::Redirect(_) | Document::Lexeme(_) => None,
+    }
+}
+
+// The same for the entity of the item's page.
+fn counts_of_page(
+    alloc: Global,
+    page: &[u8],
+) -> Result<Option<(EntityId, usize, usize)>, DocumentFault> {
+    let document = document(alloc, item(1), page)?;
+    let counts = counts(&document);
+    drop(document);
+    Ok(counts)
+}
+
+// Checks that a revision of the item's page has one label and so many statements.
+fn check_page(
+    rt: &(impl Abort + AllocGlobal),
+    revisions: &mut DrillRevisions,
+    rev: u64,
+    statements: usize,
+) -> Result<(), Fail> {
+    let page = revisions.fetch(rt.alloc(), "Q1", rev)?;
+    let found = counts_of_page(rt.alloc(), page.as_slice());
+    drop(page);
+    let want = Some((item(1), 1, statements));
+    check(rt, (rev, found?), (rev, want), "Q1");
+    Ok(())
 }
 
 #[test]
 fn pages_are_documents(rt: HostRuntime) -> Result<(), Fail> {
     let mut revisions = DrillRevisions::new(1);
-    for (rev, statements) in [(1, 0), (2, 1)] {
-        let page = revisions.fetch(rt.alloc(), "Q1", rev)?;
-        let found = match document(rt.alloc(), item(1), page.as_slice())? {
-            Document::Entity(entity) => Some((
-                entity.id,
-                entity.labels.len(),
-                entity.statements.len(),
-            )),
-            Document::Redirect(_) | Document::Lexeme(_) => None,
-        };
-        assert_eq!(rt; found, Some((item(1), 1, statements)), "of {rev}");
-    }
-    Ok(())
+    check_page(&rt, &mut revisions, 1, 0)?;
+    check_page(&rt, &mut revisions, 2, 1)
 }

@@ -2,11 +2,13 @@
 
 ghost use Rattle.entity_model.specs.Document.{IsDocumentOf};
 
+use crate::checks::{check, check_lines, halves};
+use crate::stores::triple_from;
 use entity_json::document;
 use entity_model::{Document, EntityId, MappingVersion};
 use entity_rdf::{direct_texts, direct_triples, dump_triples};
 use munger::munge;
-use rdf_term::{List, Term, Triple, TripleSet, write_triple};
+use rdf_term::{List, Term, Triple, TripleSet};
 use std::alloc::Global;
 use std::process::Abort;
 use std::str;
@@ -19,22 +21,18 @@ use triple_texts::{TripleText, TripleTexts};
 fn check_dump(
     rt: &(impl Abort + Alloc<A = Global>),
     id: EntityId,
-    document: &Document,
+    document: Document,
     want: &str,
 ) -> Result<(), Fail>
-    requires { IsDocumentOf id document.now }
+    requires { IsDocumentOf id document }
 {
     let setting = Setting {
         alloc: rt.alloc(),
         version: MappingVersion::One,
     };
-    let dump = dump_triples(setting, id, 5, document)?;
-    let mut text = Vec::new(rt.alloc());
-    for triple in dump.items() {
-        write_triple(triple, &mut text)?;
-    }
-    assert_eq!(rt; str::from_utf8(text.as_slice()), Ok(want));
-    Ok(())
+    let dump = dump_triples(setting, id, 5, &document);
+    drop(document);
+    check_lines(rt, dump?, want)
 }
 
 // All that the page of Q1 says where it has one label.
@@ -58,7 +56,7 @@ fn dump_of_an_item(rt: HostRuntime) -> Result<(), Fail> {
     let id = EntityId::read("Q1").ok_or("an id")?;
     let page = r#"{"type":"item","id":"Q1","labels":{"en":{"language":"en","value":"a"}}}"#;
     match document(rt.alloc(), id, page.as_bytes()) {
-        Ok(document) => check_dump(&rt, id, &document, ITEM),
+        Ok(document) => check_dump(&rt, id, document, ITEM),
         Err(_) => Err("a document".into()),
     }
 }
@@ -87,40 +85,79 @@ fn term_of(alloc: Global, text: &[u8]) -> Option<Term> {
 
 // The triple of the texts of its terms.
 fn triple_of(alloc: Global, texts: TripleText<'_>) -> Option<Triple> {
-    Some(Triple {
-        subject: term_of(alloc, texts.subject)?,
-        predicate: term_of(alloc, texts.predicate)?,
-        object: term_of(alloc, texts.object)?,
-    })
+    let subject = term_of(alloc, texts.subject);
+    let predicate = term_of(alloc, texts.predicate);
+    let object = term_of(alloc, texts.object);
+    triple_from(subject, predicate, object)
+}
+
+// Puts the triples of their texts into the list.
+fn push_triples(alloc: Global, texts: &TripleTexts, list: &mut List<Triple>) -> Option<()> {
+    for index in 0..texts.len() {
+        list.push(triple_of(alloc, texts.get(index))?).ok()?;
+    }
+    Some(())
 }
 
 // The set of the triples of their texts.
 fn set_of(alloc: Global, texts: &TripleTexts) -> Option<TripleSet> {
     let mut triples = List::new(alloc);
-    for index in 0..texts.len() {
-        triples.push(triple_of(alloc, texts.get(index))?).ok()?;
+    if push_triples(alloc, texts, &mut triples).is_none() {
+        drop(triples);
+        return None;
     }
     TripleSet::from_list(triples).ok()
+}
+
+// What munging leaves of the dump.
+fn munged(setting: Setting, id: EntityId, document: &Document) -> Option<TripleSet>
+    requires { IsDocumentOf id document.now }
+{
+    let dump = dump_triples(setting, id, 5, document).ok()?;
+    let kept = munge(setting.alloc, id, &dump);
+    drop(dump);
+    kept.ok()
+}
+
+// The set of what is made as texts without the dump.
+fn set_of_direct_texts(setting: Setting, id: EntityId, document: &Document) -> Option<TripleSet>
+    requires { IsDocumentOf id document.now }
+{
+    let texts = direct_texts(setting, id, 5, document).ok()?;
+    let read = set_of(setting.alloc, &texts);
+    drop(texts);
+    read
+}
+
+// Whether there are two sets, and they are equal.
+fn are_equal(one: &TripleSet, other: Option<TripleSet>) -> Option<bool> {
+    let other = other?;
+    let equal = one.items() == other.items();
+    drop(other);
+    Some(equal)
 }
 
 // Whether what munging leaves of the dump is what is made without the dump, as a set and by its texts; None where memory is refused.
 fn is_made_directly(setting: Setting, id: EntityId, document: &Document) -> Option<bool>
     requires { IsDocumentOf id document.now }
 {
-    let dump = dump_triples(setting, id, 5, document).ok()?;
-    let kept = munge(setting.alloc, id, &dump).ok()?;
-    let direct = direct_triples(setting, id, 5, document).ok()?;
-    let texts = direct_texts(setting, id, 5, document).ok()?;
-    let read = set_of(setting.alloc, &texts)?;
-    let as_texts = read.items() == kept.items();
-    Some(as_texts && direct.items() == kept.items() && !kept.items().is_empty())
+    let kept = munged(setting, id, document)?;
+    let as_set = are_equal(&kept, direct_triples(setting, id, 5, document).ok());
+    let as_texts = are_equal(&kept, set_of_direct_texts(setting, id, document));
+    let some = !kept.items().is_empty();
+    drop(kept);
+    Some(as_texts? && as_set? && some)
 }
 
 // The same for the page of an entity under a version of the mapping; None also where the page isn't one.
 fn is_page_made_directly(setting: Setting, id: &str, page: &str) -> Option<bool> {
     let id = EntityId::read(id)?;
     match document(setting.alloc, id, page.as_bytes()) {
-        Ok(document) => is_made_directly(setting, id, &document),
+        Ok(document) => {
+            let made = is_made_directly(setting, id, &document);
+            drop(document);
+            made
+        }
         Err(_) => None,
     }
 }
@@ -128,16 +165,17 @@ fn is_page_made_directly(setting: Setting, id: &str, page: &str) -> Option<bool>
 #[test]
 fn what_is_kept_is_made_without_the_dump(rt: HostRuntime) -> Result<(), Fail> {
     for line in PAGES.lines() {
-        let (id, page) = line.split_once(' ').ok_or("an id")?;
+        let (id, page) = halves(line, " ")?;
         for version in [MappingVersion::One, MappingVersion::Two] {
             let setting = Setting {
                 alloc: rt.alloc(),
                 version,
             };
-            assert_eq!(rt;
+            check(
+                &rt,
                 is_page_made_directly(setting, id, page),
                 Some(true),
-                "{line}"
+                line,
             );
         }
     }

@@ -2,6 +2,7 @@
 
 ghost use Rattle.std.specs.Prelude.{◌≡◌, ◌<◌};
 
+use crate::checks::{check, halves};
 use block_index::BlockIndex;
 use comparison_steps::Steps;
 use slot_keys::Key;
@@ -45,6 +46,15 @@ fn call<L: Ledger>(
     Ok(index.remove(key(number), steps))
 }
 
+// Checks the numbers of the keys.
+fn check_numbers(rt: &impl Abort, found: &[Key], numbers: &str) -> Result<(), Fail> {
+    check(rt, found.len(), numbers.split_whitespace().count(), numbers);
+    for (key, number) in found.iter().zip(numbers.split_whitespace()) {
+        check(rt, key.second, number.parse::<u32>()?, numbers);
+    }
+    Ok(())
+}
+
 // Checks the numbers from 1 to 2.
 fn check_range<L: Ledger>(
     rt: &impl Abort,
@@ -53,15 +63,9 @@ fn check_range<L: Ledger>(
     steps: &mut Steps<L>,
 ) -> Result<(), Fail> {
     let found = index.range(key(1), key(2), steps)?;
-    assert_eq!(rt;
-        found.len(),
-        numbers.split_whitespace().count(),
-        "{numbers:?}"
-    );
-    for (key, number) in found.as_slice().iter().zip(numbers.split_whitespace()) {
-        assert_eq!(rt; key.second, number.parse::<u32>()?, "{numbers:?}");
-    }
-    Ok(())
+    let checked = check_numbers(rt, found.as_slice(), numbers);
+    drop(found);
+    checked
 }
 
 // Makes a call, and checks what it answers and leaves.
@@ -71,15 +75,28 @@ fn check_call<L: Ledger>(
     row: &str,
     steps: &mut Steps<L>,
 ) -> Result<(), Fail> {
-    let (sign, rest) = row.split_once(' ').ok_or("a sign")?;
-    let (number, rest) = rest.split_once(' ').ok_or("a number")?;
-    let (answer, numbers) = rest.split_once(" |").ok_or("an answer")?;
+    let (sign, rest) = halves(row, " ")?;
+    let (number, rest) = halves(rest, " ")?;
+    let (answer, numbers) = halves(rest, " |")?;
     let changed = call(index, sign, number.parse()?, steps)?;
-    assert_eq!(rt; changed, answer == "true", "{row:?}");
+    check(rt, changed, answer == "true", row);
     check_range(rt, index, numbers, steps)
 }
 
 // Makes all calls in turn.
+fn make_calls<L: Ledger>(
+    rt: &impl Abort,
+    index: &mut BlockIndex<Key>,
+    steps: &mut Steps<L>,
+) -> Result<(), Fail> {
+    for row in CALLS.lines() {
+        check_call(rt, index, row, steps)?;
+    }
+    assert_eq!(rt; (index.len(), index.blocks()), (0, 0));
+    Ok(())
+}
+
+// Makes all calls in turn at a new set.
 fn check_calls<L: Ledger>(rt: &(impl Abort + Alloc<A = Global>), blank: Blank) -> Result<(), Fail>
     requires name { blank.name ≡ L.name }
     requires parts { blank.parts ≡ L.parts }
@@ -87,11 +104,9 @@ fn check_calls<L: Ledger>(rt: &(impl Abort + Alloc<A = Global>), blank: Blank) -
 {
     let mut steps = Steps::<L>::new(blank);
     let mut index = BlockIndex::new(rt.alloc());
-    for row in CALLS.lines() {
-        check_call(rt, &mut index, row, &mut steps)?;
-    }
-    assert_eq!(rt; (index.len(), index.blocks()), (0, 0));
-    Ok(())
+    let checked = make_calls(rt, &mut index, &mut steps);
+    drop(index);
+    checked
 }
 
 #[test]

@@ -1,6 +1,6 @@
 // A lexeme with one lemma, one form and one sense: what is kept of it, worked out by hand from the rules.
 
-use crate::munged::check_lines;
+use crate::checks::{check_lines, halves};
 use entity_model::{EntityId, Lexeme, MappingVersion, Part, Tagged};
 use lexeme_rdf::lexeme_triples;
 use rdf_term::{CowText, List};
@@ -37,17 +37,26 @@ const KEPT: &str = "\
 <http://www.wikidata.org/entity/L1> <http://www.w3.org/ns/lemon/ontolex#sense> <http://www.wikidata.org/entity/L1-S1> .
 ";
 
+// Puts the text of a line into the list, where it is of the kind.
+fn push_text<'a>(line: &'a str, kind: &str, texts: &mut List<Tagged<'a>>) -> Result<(), Fail> {
+    let (of, tagged) = halves(line, " ")?;
+    let (language, text) = halves(tagged, " ")?;
+    if of == kind {
+        texts.push(Tagged {
+            text: CowText::borrowed(text),
+            language: CowText::borrowed(language),
+        })?;
+    }
+    Ok(())
+}
+
 // The texts of a kind.
 fn texts<'a>(alloc: Global, lines: &'a str, kind: &str) -> Result<List<Tagged<'a>>, Fail> {
     let mut texts = List::new(alloc);
     for line in lines.lines() {
-        let (of, tagged) = line.split_once(' ').ok_or("a kind")?;
-        let (language, text) = tagged.split_once(' ').ok_or("a language")?;
-        if of == kind {
-            texts.push(Tagged {
-                text: CowText::borrowed(text),
-                language: CowText::borrowed(language),
-            })?;
+        if let Err(fail) = push_text(line, kind, &mut texts) {
+            drop(texts);
+            return Err(fail);
         }
     }
     Ok(texts)
@@ -60,31 +69,56 @@ fn only<T: Drop>(alloc: Global, item: T) -> Result<List<T>, Fail> {
     Ok(list)
 }
 
-// The form or sense with this id and these texts.
-fn part<'a>(alloc: Global, id: &'a str, texts: List<Tagged<'a>>) -> Part<'a> {
-    Part {
+// The form or sense with this id, texts of a kind and no features.
+fn part(alloc: Global, id: &'static str, kind: &str) -> Result<Part<'static>, Fail> {
+    Ok(Part {
         id: CowText::borrowed(id),
-        texts,
+        texts: texts(alloc, TEXTS, kind)?,
         features: List::new(alloc),
         statements: List::new(alloc),
-    }
+    })
 }
 
-// The lexeme.
-fn lexeme(alloc: Global, id: EntityId) -> Result<Lexeme<'static>, Fail> {
-    let mut form = part(alloc, "L1-F1", texts(alloc, TEXTS, "representation")?);
-    form.features = only(alloc, EntityId::read("Q1").ok_or("an id")?)?;
-    let sense = part(alloc, "L1-S1", texts(alloc, TEXTS, "gloss")?);
+// The form, whose one feature is an item.
+fn form(alloc: Global) -> Result<Part<'static>, Fail> {
+    let feature = EntityId::read("Q1").ok_or("an id")?;
+    let features = only(alloc, feature)?;
+    let mut form = part(alloc, "L1-F1", "representation")?;
+    form.features = features;
+    Ok(form)
+}
+
+// The lexeme without its form and its sense.
+fn lexeme_alone(alloc: Global, id: EntityId) -> Result<Lexeme<'static>, Fail> {
+    let category = EntityId::read("Q24905").ok_or("an id")?;
+    let language = EntityId::read("Q1860").ok_or("an id")?;
     Ok(Lexeme {
         id,
         modified: None,
         lemmas: texts(alloc, TEXTS, "lemma")?,
-        category: EntityId::read("Q24905").ok_or("an id")?,
-        language: EntityId::read("Q1860").ok_or("an id")?,
+        category,
+        language,
         statements: List::new(alloc),
-        forms: only(alloc, form)?,
-        senses: only(alloc, sense)?,
+        forms: List::new(alloc),
+        senses: List::new(alloc),
     })
+}
+
+// Puts the form and the sense into the lexeme.
+fn push_parts(alloc: Global, lexeme: &mut Lexeme<'static>) -> Result<(), Fail> {
+    lexeme.forms.push(form(alloc)?)?;
+    lexeme.senses.push(part(alloc, "L1-S1", "gloss")?)?;
+    Ok(())
+}
+
+// The lexeme.
+fn lexeme(alloc: Global, id: EntityId) -> Result<Lexeme<'static>, Fail> {
+    let mut lexeme = lexeme_alone(alloc, id)?;
+    if let Err(fail) = push_parts(alloc, &mut lexeme) {
+        drop(lexeme);
+        return Err(fail);
+    }
+    Ok(lexeme)
 }
 
 #[test]
@@ -95,6 +129,7 @@ fn a_lexeme_is_mapped(rt: HostRuntime) -> Result<(), Fail> {
         alloc: rt.alloc(),
         version: MappingVersion::One,
     };
-    let set = lexeme_triples(setting, id, 1, &lexeme)?;
-    check_lines(&rt, &set, KEPT)
+    let set = lexeme_triples(setting, id, 1, &lexeme);
+    drop(lexeme);
+    check_lines(&rt, set?, KEPT)
 }

@@ -4,12 +4,14 @@ ghost use Rattle.std.specs.Prelude.{IfSome};
 ghost use Rattle.std.specs.List.{AllByRecursion};
 ghost use Rattle.rdf_term.specs.Fit.{HasFitAndShortTerms};
 
+use crate::checks::{check, halves};
 use crate::pools::term_of;
 use crate::stores::triple_of;
 use graph_match::{Place, Query, Rows, Shape, StoreRows, solve};
 use rdf_term::{List, Term, Text, Triple, TripleSet, write_term};
 use std::alloc::Global;
 use std::hash::RandomState;
+use std::process::Abort;
 use std::test::Fail;
 use triple_patch::Patch;
 use triple_store::Store;
@@ -33,17 +35,25 @@ const QUERIES: &str =
 <Q1> <P1> \"a\" =;
 <Q1> <P1> \"b\" =";
 
-// The triples of lines of three words; None where one isn't written right, or memory is refused.
+// Puts the triple of three words into the list, and leaves the list as it is where they aren't written right or memory is refused.
 #[tactic(auto, using(crate::proofs::Fitting::one_more))]
+fn push_triple(alloc: Global, words: &str, triples: &mut List<Triple>) -> Option<()>
+    requires { AllByRecursion HasFitAndShortTerms triples.old }
+    ensures { AllByRecursion HasFitAndShortTerms triples.new }
+{
+    let triple = triple_of(alloc, words)?;
+    triples.push(triple).ok()
+}
+
+// The triples of lines of three words; None where one isn't written right, or memory is refused.
 fn triples_of(alloc: Global, lines: &str) -> Option<List<Triple>>
     ensures { IfSome result (AllByRecursion HasFitAndShortTerms) }
 {
     let mut triples = List::new(alloc);
     for words in lines.lines() {
-        let triple = triple_of(alloc, words)?;
-        match triples.push(triple) {
-            Ok(()) => {}
-            Err(_) => return None,
+        if push_triple(alloc, words, &mut triples).is_none() {
+            drop(triples);
+            return None;
         }
     }
     Some(triples)
@@ -54,11 +64,7 @@ fn triples_of(alloc: Global, lines: &str) -> Option<List<Triple>>
 fn set_of(alloc: Global, lines: &str) -> Option<TripleSet>
     ensures { IfSome result (AllByRecursion HasFitAndShortTerms) }
 {
-    let triples = triples_of(alloc, lines)?;
-    match TripleSet::from_list(triples) {
-        Ok(set) => Some(set),
-        Err(_) => None,
-    }
+    TripleSet::from_list(triples_of(alloc, lines)?).ok()
 }
 
 // A store to which the triples come, all in one patch.
@@ -66,11 +72,18 @@ fn store_of(alloc: Global, keys: RandomState, adds: TripleSet) -> Option<Store>
     requires { AllByRecursion HasFitAndShortTerms adds }
 {
     let Ok(mut store) = Store::new(alloc, keys, 100) else {
+        drop(adds);
         return None;
     };
     let removes = TripleSet::from_rising(List::new(alloc));
-    store.apply(&Patch { adds, removes }).ok()?;
-    Some(store)
+    let patch = Patch { adds, removes };
+    let applied = store.apply(&patch);
+    drop(patch);
+    if applied.is_ok() {
+        return Some(store);
+    }
+    drop(store);
+    None
 }
 
 // What stands at a place; None where the word is no term, or memory is refused.
@@ -81,22 +94,58 @@ fn place_of(alloc: Global, word: &str) -> Option<Place> {
     }
 }
 
+// The shape of three places, where all are there.
+fn shape_from(
+    subject: Option<Place>,
+    predicate: Option<Place>,
+    object: Option<Place>,
+) -> Option<Shape> {
+    let Some(subject) = subject else {
+        drop(predicate);
+        drop(object);
+        return None;
+    };
+    let Some(predicate) = predicate else {
+        drop(subject);
+        drop(object);
+        return None;
+    };
+    let Some(object) = object else {
+        drop(subject);
+        drop(predicate);
+        return None;
+    };
+    Some(Shape {
+        subject,
+        predicate,
+        object,
+    })
+}
+
 // The shape of three words.
 fn shape_of(alloc: Global, words: &str) -> Option<Shape> {
     let (subject, rest) = words.split_once(' ')?;
     let (predicate, object) = rest.split_once(' ')?;
-    Some(Shape {
-        subject: place_of(alloc, subject)?,
-        predicate: place_of(alloc, predicate)?,
-        object: place_of(alloc, object)?,
-    })
+    let subject = place_of(alloc, subject);
+    let predicate = place_of(alloc, predicate);
+    let object = place_of(alloc, object);
+    shape_from(subject, predicate, object)
+}
+
+// Puts the shapes into the list.
+fn push_shapes(alloc: Global, shapes: &str, list: &mut List<Shape>) -> Option<()> {
+    for words in shapes.split(" . ") {
+        list.push(shape_of(alloc, words)?).ok()?;
+    }
+    Some(())
 }
 
 // The query of shapes.
 fn query_of(alloc: Global, shapes: &str) -> Option<Query> {
     let mut list = List::new(alloc);
-    for words in shapes.split(" . ") {
-        list.push(shape_of(alloc, words)?).ok()?;
+    if push_shapes(alloc, shapes, &mut list).is_none() {
+        drop(list);
+        return None;
     }
     Query::new(list)
 }
@@ -111,18 +160,33 @@ fn write_binding(binding: &List<Term>, out: &mut Vec<u8>) -> Option<()> {
 }
 
 // Writes bindings.
-fn written(alloc: Global, bindings: &[List<Term>]) -> Option<Vec<u8>> {
-    let mut out = Vec::new(alloc);
+fn write_bindings(bindings: &[List<Term>], out: &mut Vec<u8>) -> Option<()> {
     for binding in bindings {
-        write_binding(binding, &mut out)?;
+        write_binding(binding, out)?;
     }
-    Some(out)
+    Some(())
 }
 
 // The bindings of a query over a source, written.
 fn bindings<M: Rows>(alloc: Global, source: &M, query: &Query) -> Option<Vec<u8>> {
     let found = solve(alloc, source, query).ok()?;
-    written(alloc, found.as_slice())
+    let mut out = Vec::new(alloc);
+    let written = write_bindings(found.as_slice(), &mut out);
+    drop(found);
+    written?;
+    Some(out)
+}
+
+// Whether both bindings are the expected ones.
+fn are_expected(
+    over_set: Option<Vec<u8>>,
+    over_store: Option<Vec<u8>>,
+    expected: &str,
+) -> Option<bool> {
+    let over_set = over_set?;
+    let over_store = over_store?;
+    let same = over_set.as_slice() == over_store.as_slice();
+    Some(same && over_set.as_slice() == expected.as_bytes())
 }
 
 // Whether a query has these bindings over a set and over a store.
@@ -134,26 +198,62 @@ fn has_bindings(
     expected: &str,
 ) -> Option<bool> {
     let query = query_of(alloc, shapes)?;
-    let over_set = bindings(alloc, set, &query)?;
-    let over_store = bindings(alloc, &StoreRows::new(store), &query)?;
-    let same = over_set.as_slice() == over_store.as_slice();
-    Some(same && over_set.as_slice() == expected.as_bytes())
+    let over_set = bindings(alloc, set, &query);
+    let over_store = bindings(alloc, &StoreRows::new(store), &query);
+    drop(query);
+    are_expected(over_set, over_store, expected)
+}
+
+// Checks the bindings of each query over a set and over a store.
+fn check_queries(
+    rt: &(impl Abort + Alloc<A = Global>),
+    set: &TripleSet,
+    store: &Store,
+) -> Result<(), Fail> {
+    for line in QUERIES.lines() {
+        let (shapes, expected) = halves(line, " =")?;
+        let found = has_bindings(rt.alloc(), set, store, shapes, expected);
+        check(rt, found, Some(true), line);
+    }
+    Ok(())
+}
+
+// Whether the store has the triples of the set.
+fn has_triples(store: &Store, set: &TripleSet) -> Result<bool, Fail> {
+    let all = store.all()?;
+    let same = all.items() == set.items();
+    drop(all);
+    Ok(same)
+}
+
+// Checks the triples of a store to which those of the set came, and its queries.
+fn check_store(
+    rt: &(impl Abort + Alloc<A = Global>),
+    set: &TripleSet,
+    store: &Store,
+) -> Result<(), Fail> {
+    assert!(rt; has_triples(store, set)?);
+    check_queries(rt, set, store)
+}
+
+// Makes the store, and checks it.
+fn check_new_store(
+    rt: &(impl Abort + Alloc<A = Global>),
+    set: &TripleSet,
+    keys: RandomState,
+) -> Result<(), Fail> {
+    let adds = set_of(rt.alloc(), TRIPLES).ok_or("triples, or memory")?;
+    let store = store_of(rt.alloc(), keys, adds).ok_or("memory")?;
+    let checked = check_store(rt, set, &store);
+    drop(store);
+    checked
 }
 
 #[test]
 fn bindings_are_found(rt: HostRuntime) -> Result<(), Fail> {
-    let alloc = rt.alloc();
-    let set = set_of(alloc, TRIPLES).ok_or("triples, or memory")?;
-    let adds = set_of(alloc, TRIPLES).ok_or("triples, or memory")?;
-    let store = store_of(alloc, RandomState::new(&rt)?, adds).ok_or("memory")?;
-    assert!(rt; store.all()?.items() == set.items());
-    for line in QUERIES.lines() {
-        let (shapes, expected) = line.split_once(" =").ok_or("bindings")?;
-        assert_eq!(rt;
-            has_bindings(alloc, &set, &store, shapes, expected),
-            Some(true),
-            "{line}"
-        );
-    }
-    Ok(())
+    let keys = RandomState::new(&rt)?;
+    let set = set_of(rt.alloc(), TRIPLES).ok_or("triples, or memory")?;
+    let checked = check_new_store(&rt, &set, keys);
+    drop(set);
+    checked
 }

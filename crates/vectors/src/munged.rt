@@ -1,11 +1,11 @@
 // Values from outside: the data differences that the Wikidata Query Service documents, by hand.
 
+use crate::checks::check_lines;
 use crate::stores::triple_of;
 use entity_model::EntityId;
 use munger::munge;
-use rdf_term::{List, Triple, TripleSet, write_triple};
+use rdf_term::{List, Triple, TripleSet};
 use std::alloc::Global;
-use std::process::Abort;
 use std::test::Fail;
 
 // Lines of a dump of Q64, and then what is left of them.
@@ -56,33 +56,29 @@ fn triple_in(alloc: Global, line: &str) -> Option<Triple> {
     triple_of(alloc, line.strip_suffix(" .")?)
 }
 
+// Puts the lines' triples into the list.
+fn push_triples(alloc: Global, lines: &str, list: &mut List<Triple>) -> Result<(), Fail> {
+    for line in lines.lines() {
+        list.push(triple_in(alloc, line).ok_or("a triple, or memory")?)?;
+    }
+    Ok(())
+}
+
 // The set of the lines' triples.
 fn set(alloc: Global, lines: &str) -> Result<TripleSet, Fail> {
     let mut list = List::new(alloc);
-    for line in lines.lines() {
-        let triple = triple_in(alloc, line).ok_or("a triple, or memory")?;
-        list.push(triple)?;
+    if let Err(fail) = push_triples(alloc, lines, &mut list) {
+        drop(list);
+        return Err(fail);
     }
     Ok(TripleSet::from_list(list)?)
-}
-
-// Checks that the set has the lines.
-pub(crate) fn check_lines(
-    rt: &(impl Abort + Alloc<A = Global>),
-    set: &TripleSet,
-    lines: &str,
-) -> Result<(), Fail> {
-    let mut out = Vec::new(rt.alloc());
-    for triple in set.items() {
-        write_triple(triple, &mut out)?;
-    }
-    assert_eq!(rt; out.as_slice(), lines.as_bytes());
-    Ok(())
 }
 
 #[test]
 fn a_page_is_munged(rt: HostRuntime) -> Result<(), Fail> {
     let id = EntityId::read("Q64").ok_or("an id")?;
     let dump = set(rt.alloc(), LINES)?;
-    check_lines(&rt, &munge(rt.alloc(), id, &dump)?, MUNGED)
+    let munged = munge(rt.alloc(), id, &dump);
+    drop(dump);
+    check_lines(&rt, munged?, MUNGED)
 }

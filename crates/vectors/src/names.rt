@@ -1,7 +1,8 @@
 // The test suite of RFC 1321, what md5sum says of the texts that name a number's node in both versions of the mapping, and fields
 // that are told apart.
 
-use rdf_term::CowText;
+use crate::checks::{check, halves};
+use rdf_term::{CowText, OutOfMemory};
 use rdf_vocabulary::{hashed_name, push_field, push_optional_field};
 use std::test::Fail;
 
@@ -18,21 +19,25 @@ q2:+51:1-- => 264596658257651e25b9a6e5508e8bad
 
 #[test]
 fn messages_are_hashed(rt: HostRuntime) -> Result<(), Fail> {
-    for line in DIGESTS.lines() {
-        let (message, want) = line.split_once(" => ").ok_or("a row")?;
+    for row in DIGESTS.lines() {
+        let (message, want) = halves(row, " => ")?;
         let name = hashed_name(rt.alloc(), message)?;
-        assert_eq!(rt; name.as_str(), want, "of {message:?}");
+        check(&rt, name.as_str(), want, message);
     }
     Ok(())
+}
+
+// Writes a text, none and an empty text as fields.
+fn push_fields(fields: &mut String) -> Result<(), OutOfMemory> {
+    push_field("äb", fields)?;
+    push_optional_field(None, fields)?;
+    push_optional_field(Some(&CowText::borrowed("")), fields)
 }
 
 #[test]
 fn fields_are_told_apart(rt: HostRuntime) -> Result<(), Fail> {
     let mut fields = String::new(rt.alloc());
-    push_field("äb", &mut fields)?;
-    push_optional_field(None, &mut fields)?;
-    let empty = CowText::borrowed("");
-    push_optional_field(Some(&empty), &mut fields)?;
-    assert_eq!(rt; fields.as_str(), "3:äb-0:");
+    push_fields(&mut fields)?;
+    check(&rt, fields.as_str(), "3:äb-0:", "three fields");
     Ok(())
 }

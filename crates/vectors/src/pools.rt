@@ -1,9 +1,10 @@
 // A pool that fills up, and that has room again.
 
-ghost use Rattle.std.specs.Prelude.{IfSome, OnOk};
-ghost use Rattle.rdf_term.specs.Fit.{IsFitAndShort};
+ghost use Rattle.std.specs.Prelude.{◌≡◌, true, IfSome, OnOk};
+ghost use Rattle.rdf_term.specs.Fit.{is_fit, IsFitAndShort};
 ghost use Rattle.term_pool.specs.Pool.{LiesIn};
 
+use crate::checks::{check, halves};
 use rdf_term::{Term, write_term};
 use std::alloc::Global;
 use std::hash::RandomState;
@@ -27,19 +28,26 @@ const STEPS: &str = "+ <a> 1 there
 - <b> 0 gone
 + \"a\" 1 there";
 
+// Whether a pool takes the term, which is fit, since its text is short; not where memory is refused.
+fn is_short(alloc: Global, term: &Term) -> bool
+    requires { is_fit term.now ≡ true }
+    ensures { result ≡ true → IsFitAndShort term.now }
+{
+    let mut written = Vec::new(alloc);
+    let outcome = write_term(term, &mut written);
+    outcome.is_ok() && written.len() <= 33_554_432
+}
+
 // The term that a text writes, where it is one that a pool takes; None too where memory is refused.
 pub(crate) fn term_of(alloc: Global, text: &str) -> Option<Term>
     ensures { IfSome result IsFitAndShort }
 {
-    let Ok(Some(term)) = read_term(alloc, text) else {
-        return None;
-    };
-    let mut written = Vec::new(alloc);
-    write_term(&term, &mut written).ok()?;
-    if written.len() > 33_554_432 {
-        return None;
+    let term = read_term(alloc, text).ok()??;
+    if is_short(alloc, &term) {
+        return Some(term);
     }
-    Some(term)
+    drop(term);
+    None
 }
 
 // Counts one more use, and says whether that was refused since the pool is full. A term that was there stays in its slot. Here and below
@@ -52,8 +60,8 @@ fn is_full_for(rt: &impl Abort, pool: &mut Pool, region: &mut Region, term: &Ter
     let before = pool.find(region, term);
     match pool.intern(region, term) {
         Ok(slot) => {
-            assert_eq!(rt; before.unwrap_or(slot), slot);
-            assert_eq!(rt; pool.find(region, term), Some(slot));
+            let found = (before.unwrap_or(slot), pool.find(region, term));
+            check(rt, found, (slot, Some(slot)), "a term that was or is there");
             Some(false)
         }
         Err(PoolFault::Full) => Some(true),
@@ -90,6 +98,22 @@ fn is_full_for_call(
     Some(false)
 }
 
+// Checks whether the pool was full and has the term, and how many terms it has where it wasn't full.
+fn check_row(
+    rt: &impl Abort,
+    found: (Option<bool>, bool),
+    len: u32,
+    row: &str,
+    step: &str,
+) -> Result<(), Fail> {
+    let (count, there) = halves(row, " ")?;
+    check(rt, found, (Some(count == "full"), there == "there"), step);
+    if count != "full" {
+        check(rt, len, count.parse::<u32>()?, step);
+    }
+    Ok(())
+}
+
 // Checks one step.
 fn check_step(
     rt: &(impl Abort + Alloc<A = Global>),
@@ -100,31 +124,36 @@ fn check_step(
     requires { LiesIn pool.old region.old }
     ensures { OnOk result (LiesIn pool.new region.new) }
 {
-    let (sign, row) = step.split_once(' ').ok_or("a step")?;
-    let (text, row) = row.split_once(' ').ok_or("a row")?;
-    let (want, found) = row.split_once(' ').ok_or("a count")?;
+    let (sign, row) = halves(step, " ")?;
+    let (text, row) = halves(row, " ")?;
     let term = term_of(rt.alloc(), text).ok_or("a term, or memory")?;
-    let full = is_full_for_call(rt, pool, region, sign, &term).ok_or(
-        "a term that is there, or memory",
-    )?;
-    assert_eq!(rt; full, want == "full", "{step:?}");
-    if !full {
-        assert_eq!(rt; pool.len(), want.parse::<u32>()?, "{step:?}");
+    let full = is_full_for_call(rt, pool, region, sign, &term);
+    let there = pool.find(region, &term).is_some();
+    drop(term);
+    check_row(rt, (full, there), pool.len(), row, step)
+}
+
+// Checks all steps in turn.
+fn check_steps(
+    rt: &(impl Abort + Alloc<A = Global>),
+    pool: &mut Pool,
+    region: &mut Region,
+) -> Result<(), Fail>
+    requires { LiesIn pool.old region.old }
+{
+    for step in STEPS.lines() {
+        check_step(rt, pool, region, step)?;
     }
-    assert_eq!(rt;
-        pool.find(region, &term).is_some(),
-        found == "there",
-        "{step:?}"
-    );
     Ok(())
 }
 
 #[test]
 fn a_pool_fills_up(rt: HostRuntime) -> Result<(), Fail> {
+    let keys = RandomState::new(&rt)?;
     let mut region = Region::new(rt.alloc())?;
-    let mut pool = Pool::new(rt.alloc(), RandomState::new(&rt)?, 2);
-    for step in STEPS.lines() {
-        check_step(&rt, &mut pool, &mut region, step)?;
-    }
-    Ok(())
+    let mut pool = Pool::new(rt.alloc(), keys, 2);
+    let checked = check_steps(&rt, &mut pool, &mut region);
+    drop(pool);
+    drop(region);
+    checked
 }

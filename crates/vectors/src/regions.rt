@@ -1,5 +1,8 @@
 // The blocks of texts at the borders of their classes.
 
+ghost use Rattle.std.specs.Prelude.{◌<◌};
+
+use crate::checks::{check, halves};
 use std::process::Abort;
 use std::test::Fail;
 use text_region::{Region, class_of};
@@ -70,14 +73,25 @@ const LENGTHS: &str = "0 0
 #[test]
 fn lengths_have_their_classes(rt: HostRuntime) -> Result<(), Fail> {
     for row in LENGTHS.lines() {
-        let (length, want) = row.split_once(' ').ok_or("a row")?;
+        let (length, want) = halves(row, " ")?;
         let length: usize = length.parse()?;
         if length > 33_554_432 {
             return Err("a length".into());
         }
-        assert_eq!(rt; class_of(length), want.parse::<u8>()?, "of {length}");
+        check(&rt, class_of(length), want.parse::<u8>()?, row);
     }
     Ok(())
+}
+
+// Checks how many blocks of the class have texts, and how many there are.
+fn check_counts(rt: &impl Abort, region: &Region, class: u8, want: (u64, u64))
+    requires { class < 85 }
+{
+    assert_eq!(rt;
+        (region.live(class), region.made(class)),
+        want,
+        "of {class}"
+    );
 }
 
 // Places a text, and frees it: the class has one block after each.
@@ -86,33 +100,33 @@ fn check_block(rt: &impl Abort, region: &mut Region, text: &[u8], class: u8) -> 
         return Err("a text".into());
     }
     let piece = region.place(text)?;
-    assert_eq!(rt; region.read(&piece), text);
-    assert_eq!(rt;
-        (region.live(class), region.made(class)),
-        (1, 1),
-        "of {class}"
-    );
+    check(rt, region.read(&piece), text, "a block");
+    check_counts(rt, region, class, (1, 1));
     region.free(piece);
-    assert_eq!(rt;
-        (region.live(class), region.made(class)),
-        (0, 1),
-        "of {class}"
-    );
+    check_counts(rt, region, class, (0, 1));
+    Ok(())
+}
+
+// Places and frees the front of the text that each row has, where it is long enough for it.
+fn check_blocks(rt: &impl Abort, region: &mut Region, text: &[u8]) -> Result<(), Fail> {
+    for row in LENGTHS.lines() {
+        let (length, class) = halves(row, " ")?;
+        let length: usize = length.parse()?;
+        let class = class.parse()?;
+        if let Some(front) = text.get(..length) {
+            check_block(rt, region, front, class)?;
+        }
+    }
     Ok(())
 }
 
 // The texts have up to 4,194,320 bytes; the blocks of the classes above take more memory than a test should.
 #[test]
 fn a_free_block_is_used_again(rt: HostRuntime) -> Result<(), Fail> {
-    let mut region = Region::new(rt.alloc())?;
     let text = "a text of 65 bytes, of which each row takes as many as it says ..";
     let text = text.repeat(rt.alloc(), 64_528)?;
-    for row in LENGTHS.lines() {
-        let (length, class) = row.split_once(' ').ok_or("a row")?;
-        let class: u8 = class.parse()?;
-        if let Some(front) = text.as_bytes().get(..length.parse()?) {
-            check_block(&rt, &mut region, front, class)?;
-        }
-    }
-    Ok(())
+    let mut region = Region::new(rt.alloc())?;
+    let checked = check_blocks(&rt, &mut region, text.as_bytes());
+    drop(region);
+    checked
 }

@@ -1,6 +1,10 @@
 // Lines of a snapshot as they stand in a file, and lines that are none.
 
+use crate::checks::check;
+use rdf_term::OutOfMemory;
 use snapshot::{read, write};
+use std::alloc::Global;
+use std::process::Abort;
 use std::test::Fail;
 
 // One line of each kind, with the greatest and the least numbers, a word for each cause and mode, a page with a line feed, and one that
@@ -41,24 +45,47 @@ const OTHERS: &str = r#"{"end":4.0}
 {"entity":"Q42","held":null,"reconciled":null,"rev":7,"state":"kept",~"page":{}}
 {"entity":"Q42","held":{"page":"{}","rev":7},"reconciled":null,"rev":7,"state":"kept",~"page":{}}"#;
 
+// The text that is written of the line that a text is read as; None where it is read as no line.
+fn written_again(alloc: Global, text: &str) -> Result<Option<String>, OutOfMemory> {
+    let Some(line) = read(alloc, text)? else {
+        return Ok(None);
+    };
+    let written = write(alloc, &line);
+    drop(line);
+    Ok(Some(written?))
+}
+
+// Checks that a line is written as it was read.
+fn check_line(rt: &(impl Abort + Alloc<A = Global>), line: &str) -> Result<(), Fail> {
+    let written = written_again(rt.alloc(), line)?.ok_or("no line")?;
+    check(rt, written.as_str(), line, line);
+    Ok(())
+}
+
 #[test]
 fn each_line_is_written_as_it_was_read(rt: HostRuntime) -> Result<(), Fail> {
     for line in LINES.lines() {
         let line = line.replace(rt.alloc(), '~', "\t")?;
-        let found = read(rt.alloc(), line.as_str())?;
-        let found = found.ok_or("no line")?;
-        let text = write(rt.alloc(), &found)?;
-        assert_eq!(rt; text.as_str(), line.as_str());
+        check_line(&rt, line.as_str())?;
     }
     Ok(())
+}
+
+// Whether a text is read as no line.
+fn is_no_line(alloc: Global, text: &str) -> Result<bool, OutOfMemory> {
+    let line = read(alloc, text)?;
+    let none = line.is_none();
+    drop(line);
+    Ok(none)
 }
 
 #[test]
 fn other_texts_are_no_line(rt: HostRuntime) -> Result<(), Fail> {
     for line in OTHERS.lines() {
-        let line = line.replace(rt.alloc(), '~', "\t")?;
-        let found = read(rt.alloc(), line.as_str())?;
-        assert!(rt; found.is_none(), "{line}");
+        let text = line.replace(rt.alloc(), '~', "\t")?;
+        let none = is_no_line(rt.alloc(), text.as_str());
+        drop(text);
+        check(&rt, none?, true, line);
     }
     Ok(())
 }

@@ -2,11 +2,12 @@
 
 ghost use Rattle.std.specs.Prelude.{◌≡◌, ◌<◌, true, [], ◌∷◌, IfSome};
 ghost use Rattle.rising.specs.Rising.{has};
-ghost use Rattle.rdf_term.specs.{declared.triple.Triple.Triple as TheTriple, Fit.HasFitAndShortTerms, Order.triple_cmp};
+ghost use Rattle.rdf_term.specs.{declared.triple.Triple.Triple as TheTriple, Fit.HasFitAndShortTerms, Fit.IsFitAndShort, Order.triple_cmp};
 ghost use Rattle.triple_store.specs.{Counts.count_of, StoreState.counts_in};
 
+use crate::checks::{check, halves};
 use crate::pools::term_of;
-use rdf_term::{List, Triple, TripleSet};
+use rdf_term::{List, Term, Triple, TripleSet};
 use std::alloc::Global;
 use std::hash::RandomState;
 use std::process::Abort;
@@ -35,6 +36,37 @@ const STEPS: &str = "! <a> <b> <c> = 0 0
 // The triple that goes where another comes.
 const GOES: &str = "<a> <b> <a>";
 
+// The triple of three terms, where all are there.
+pub(crate) fn triple_from(
+    subject: Option<Term>,
+    predicate: Option<Term>,
+    object: Option<Term>,
+) -> Option<Triple>
+    ensures { IfSome subject IsFitAndShort → IfSome predicate IsFitAndShort → IfSome object IsFitAndShort →
+        IfSome result HasFitAndShortTerms }
+{
+    let Some(subject) = subject else {
+        drop(predicate);
+        drop(object);
+        return None;
+    };
+    let Some(predicate) = predicate else {
+        drop(subject);
+        drop(object);
+        return None;
+    };
+    let Some(object) = object else {
+        drop(subject);
+        drop(predicate);
+        return None;
+    };
+    Some(Triple {
+        subject,
+        predicate,
+        object,
+    })
+}
+
 // The triple that three words write, where they are terms that a pool takes; None too where memory is refused.
 pub(crate) fn triple_of(alloc: Global, words: &str) -> Option<Triple>
     ensures { IfSome result HasFitAndShortTerms }
@@ -44,28 +76,20 @@ pub(crate) fn triple_of(alloc: Global, words: &str) -> Option<Triple>
     let subject = term_of(alloc, subject);
     let predicate = term_of(alloc, predicate);
     let object = term_of(alloc, object);
-    match (subject, predicate, object) {
-        (Some(subject), Some(predicate), Some(object)) => Some(Triple {
-            subject,
-            predicate,
-            object,
-        }),
-        _ => None,
-    }
+    triple_from(subject, predicate, object)
 }
 
 // The set of one triple; None where memory is refused.
 fn set_of(alloc: Global, triple: &Triple) -> Option<TripleSet>
     ensures { IfSome result (λ set. set ≡ triple.now ∷ []) }
 {
-    let Ok(triple) = triple.copy(alloc) else {
-        return None;
-    };
+    let triple = triple.copy(alloc).ok()?;
     let mut triples = List::new(alloc);
-    match triples.push(triple) {
-        Ok(()) => Some(TripleSet::from_rising(triples)),
-        Err(_) => None,
+    if triples.push(triple).is_ok() {
+        return Some(TripleSet::from_rising(triples));
     }
+    drop(triples);
+    None
 }
 
 // Gives a triple an owner, and takes one from those that go, and says whether that was refused since the store is full. Here and below
@@ -81,10 +105,17 @@ fn is_full_for(
     requires there { (gone : TheTriple) → has triple_cmp gone removes ≡ true → 0 < count_of (counts_in store.old) gone }
 {
     if store.owners(triple) == u64::MAX {
+        drop(removes);
         return None;
     }
-    let adds = set_of(alloc, triple)?;
-    match store.apply(&Patch { adds, removes }) {
+    let Some(adds) = set_of(alloc, triple) else {
+        drop(removes);
+        return None;
+    };
+    let patch = Patch { adds, removes };
+    let applied = store.apply(&patch);
+    drop(patch);
+    match applied {
         Ok(()) => Some(false),
         Err(StoreFault::Full) => Some(true),
         Err(StoreFault::OutOfMemory) => None,
@@ -97,10 +128,12 @@ fn is_full_beside(alloc: Global, store: &mut Store, triple: &Triple) -> Option<b
 {
     let goes = triple_of(alloc, GOES)?;
     if store.owners(&goes) == 0 {
+        drop(goes);
         return None;
     }
-    let removes = set_of(alloc, &goes)?;
-    is_full_for(alloc, store, triple, removes)
+    let removes = set_of(alloc, &goes);
+    drop(goes);
+    is_full_for(alloc, store, triple, removes?)
 }
 
 // Takes an owner from a triple that has one.
@@ -108,10 +141,12 @@ fn lower(alloc: Global, store: &mut Store, triple: &Triple) -> Option<()> {
     if store.owners(triple) == 0 {
         return None;
     }
-    let adds = TripleSet::from_rising(List::new(alloc));
     let removes = set_of(alloc, triple)?;
+    let adds = TripleSet::from_rising(List::new(alloc));
     let patch = Patch { adds, removes };
-    store.apply(&patch).ok()
+    let applied = store.apply(&patch);
+    drop(patch);
+    applied.ok()
 }
 
 // Does the call of a step, and says whether the store is full for the triple.
@@ -131,29 +166,48 @@ fn is_full_for_call(alloc: Global, store: &mut Store, sign: &str, triple: &Tripl
     }
 }
 
+// Checks how many owners a triple has, and how many triples are stored.
+fn check_counts(
+    rt: &impl Abort,
+    store: &Store,
+    triple: &Triple,
+    counts: &str,
+    step: &str,
+) -> Result<(), Fail> {
+    let (owners, triples) = halves(counts, " ")?;
+    let want = (owners.parse::<u64>()?, triples.parse::<usize>()?);
+    check(rt, (store.owners(triple), store.triples()), want, step);
+    Ok(())
+}
+
 // Checks one step.
 fn check_step(
     rt: &(impl Abort + Alloc<A = Global>),
     store: &mut Store,
     step: &str,
 ) -> Result<(), Fail> {
-    let (call, counts) = step.split_once(" = ").ok_or("a call")?;
-    let (owners, triples) = counts.split_once(' ').ok_or("owners")?;
-    let (sign, words) = call.split_once(' ').ok_or("a sign")?;
+    let (call, counts) = halves(step, " = ")?;
+    let (sign, words) = halves(call, " ")?;
     let triple = triple_of(rt.alloc(), words).ok_or("a triple, or memory")?;
-    let full = is_full_for_call(rt.alloc(), store, sign, &triple).ok_or("an owner, or memory")?;
-    assert_eq!(rt; full, sign == "!", "{step:?}");
-    let owners: u64 = owners.parse()?;
-    assert_eq!(rt; store.owners(&triple), owners, "{step:?}");
-    assert_eq!(rt; store.triples(), triples.parse::<usize>()?, "{step:?}");
+    let full = is_full_for_call(rt.alloc(), store, sign, &triple);
+    check(rt, full, Some(sign == "!"), step);
+    let checked = check_counts(rt, store, &triple, counts, step);
+    drop(triple);
+    checked
+}
+
+// Checks all steps in turn.
+fn check_steps(rt: &(impl Abort + Alloc<A = Global>), store: &mut Store) -> Result<(), Fail> {
+    for step in STEPS.lines() {
+        check_step(rt, store, step)?;
+    }
     Ok(())
 }
 
 #[test]
 fn a_store_fills_up(rt: HostRuntime) -> Result<(), Fail> {
     let mut store = Store::new(rt.alloc(), RandomState::new(&rt)?, 2)?;
-    for step in STEPS.lines() {
-        check_step(&rt, &mut store, step)?;
-    }
-    Ok(())
+    let checked = check_steps(&rt, &mut store);
+    drop(store);
+    checked
 }

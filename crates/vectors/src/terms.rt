@@ -1,9 +1,9 @@
 // Terms that are made of texts which may not stand as they are, and copies of terms.
 
+use crate::checks::{check_written, halves};
 use rdf_term::{Term, iri, tagged, write_term};
 use std::alloc::Global;
 use std::process::Abort;
-use std::str;
 use std::test::Fail;
 use term_reading::read_term;
 
@@ -26,18 +26,20 @@ _:0a
 \"1\"^^<http://a/c>";
 
 // Checks how a term is written.
-fn check_term(rt: &(impl Abort + Alloc<A = Global>), term: &Term, want: &str) -> Result<(), Fail> {
+fn check_term(rt: &(impl Abort + Alloc<A = Global>), term: Term, want: &str) -> Result<(), Fail> {
     let mut written = Vec::new(rt.alloc());
-    write_term(term, &mut written)?;
-    assert_eq!(rt; str::from_utf8(written.as_slice()), Ok(want));
+    let outcome = write_term(&term, &mut written);
+    drop(term);
+    outcome?;
+    check_written(rt, written.as_slice(), want);
     Ok(())
 }
 
 #[test]
 fn texts_are_iris(rt: HostRuntime) -> Result<(), Fail> {
     for row in IRIS.lines() {
-        let (text, want) = row.split_once(" => ").ok_or("a row")?;
-        check_term(&rt, &iri(rt.alloc(), text)?, want)?;
+        let (text, want) = halves(row, " => ")?;
+        check_term(&rt, iri(rt.alloc(), text)?, want)?;
     }
     Ok(())
 }
@@ -45,8 +47,8 @@ fn texts_are_iris(rt: HostRuntime) -> Result<(), Fail> {
 #[test]
 fn texts_have_languages(rt: HostRuntime) -> Result<(), Fail> {
     for row in LANGUAGES.lines() {
-        let (language, want) = row.split_once(" => ").ok_or("a row")?;
-        check_term(&rt, &tagged(rt.alloc(), "x", language)?, want)?;
+        let (language, want) = halves(row, " => ")?;
+        check_term(&rt, tagged(rt.alloc(), "x", language)?, want)?;
     }
     Ok(())
 }
@@ -55,7 +57,9 @@ fn texts_have_languages(rt: HostRuntime) -> Result<(), Fail> {
 fn terms_are_copied(rt: HostRuntime) -> Result<(), Fail> {
     for text in TERMS.lines() {
         let term = read_term(rt.alloc(), text)?.ok_or("a term")?;
-        check_term(&rt, &term.copy(rt.alloc())?, text)?;
+        let copy = term.copy(rt.alloc());
+        drop(term);
+        check_term(&rt, copy?, text)?;
     }
     Ok(())
 }

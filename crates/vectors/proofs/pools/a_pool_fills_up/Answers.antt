@@ -1,5 +1,5 @@
 -- A new pool lies in each region.
 use Rattle.vectors.proofs.pools.a_pool_fills_up.Goals as goal
 
-pub loop-step-init : goal.loop-step-init
-loop-step-init g c = c.new-pool.ensures.lies _
+pub check_steps-checked-requires : goal.check_steps-checked-requires
+check_steps-checked-requires g c = c.new-pool.ensures.lies _
