@@ -13,10 +13,11 @@ pub enum LoadFault {
     /// The source failed.
     #[error("read fault")]
     ReadFault,
-    /// The file has more bytes than it may have.
+    /// The file has more than 1,099,511,627,776 bytes.
     #[error("snapshot too long")]
     TooLong,
-    /// The line with this number, from 1, is none that may come there; or the lines end, and the number is one more than that of the last.
+    /// The line with this number, from 1, is none that may come there, or has more than 67,108,864 bytes, or is the last one and lacks its
+    /// line feed; or the lines end too early, and the number is one more than that of the last.
     #[error("snapshot: line {0}")]
     BadLine(u64),
     /// The triples of the pages have more terms than there is room for.

@@ -43,8 +43,8 @@ pub struct Loaded {
 /// was applied, all has room, and each count is at most 2^63.
 ///
 /// # Errors
-/// The file could not be read; a line is none that may come there, or the lines end too early; the triples of the pages have more terms
-/// than there is room for; or memory was refused.
+/// The file could not be read, or is too long; a line is none that may come there, is over-long, or lacks its line feed, or the lines end
+/// too early; the triples of the pages have more terms than there is room for; or memory was refused.
 pub fn load<S: Source>(
     alloc: Global,
     keys: RandomState,

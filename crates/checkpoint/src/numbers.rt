@@ -14,7 +14,7 @@ const MOST: u64 = 9_223_372_036_854_775_808;
 pub struct Numbers {
     /// How many asks were answered.
     pub asks: u64,
-    /// How many matches were answered, which are counted by themselves.
+    /// How many matches were delivered to runs that answer questions; a split counts those that it passes over.
     pub matches: u64,
     /// The number of the last patch record, 0 where there was none.
     pub patches: u64,

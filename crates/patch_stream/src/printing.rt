@@ -20,8 +20,9 @@ use wq_io::Sink;
 /// say how many records were written before; the answer says how many are written now. None is written for a step that left the store
 /// alone.
 ///
-/// # Errors The output could not be written, or memory was refused: then a prefix of the record was written, and nothing else. If the next
-/// number doesn't fit 64 bits, the answer is OutOfMemory, and nothing is written.
+/// # Errors
+/// The output could not be written, or memory was refused: then a prefix of the record was written, and nothing else. If the next number
+/// doesn't fit 64 bits, the answer is OutOfMemory, and nothing is written.
 pub fn print_step<K: Sink>(
     alloc: Global,
     told: u64,

@@ -21,8 +21,9 @@ impl Graphs {
     /// Prints the answer of each graph to the question with this number: how many of its triples agree with the pattern, and the line of
     /// each.
     ///
-    /// # Errors The output could not be written, or memory was refused: then a prefix of the answers was written, and nothing else. If the
-    /// graphs are lost, the answer is OutOfMemory, and nothing is written.
+    /// # Errors
+    /// The output could not be written, or memory was refused: then a prefix of the answers was written, and nothing else. If the graphs
+    /// are lost, the answer is OutOfMemory, and nothing is written.
     pub fn print_answers<K: Sink>(
         &self,
         alloc: Global,
@@ -46,8 +47,9 @@ impl Graphs {
 
     /// Prints the triples of each graph: how many there are, and the line of each.
     ///
-    /// # Errors The output could not be written, or memory was refused: then a prefix of that was written, and nothing else. If the graphs
-    /// are lost, the answer is OutOfMemory, and nothing is written.
+    /// # Errors
+    /// The output could not be written, or memory was refused: then a prefix of that was written, and nothing else. If the graphs are
+    /// lost, the answer is OutOfMemory, and nothing is written.
     pub fn print<K: Sink>(&self, alloc: Global, out: &mut K) -> Result<(), Unwritten>
         ensures { (world : WorldState) → Follow self.now world → Prints
             (graph_sections self.now.routes (λ graph. routed_union (routing_by self.now.routes) (meaning_by meaning world.by_two) world.replay.played.records graph))
