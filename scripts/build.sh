@@ -93,6 +93,8 @@ end_progress() {
 # Stops a build that a signal interrupts.
 # shellcheck disable=SC2317
 interrupt_build() {
+  # The message below may go into a closed pipe too.
+  trap '' PIPE
   kill "$builder" 2>/dev/null
   wait "$builder" 2>/dev/null
   end_progress
@@ -104,16 +106,17 @@ interrupt_build() {
 
 # Runs rt with these words in a folder, with its output in the log, and says how far the build is.
 run_rt() {
-  (cd "$1" && shift && exec rt "$@") </dev/null >>"$log" 2>&1 &
+  (cd "$1" && shift && exec rt "$@") </dev/null >>"$log" 2>&1 8>&- &
   builder=$!
   trap 'interrupt_build INT' INT
   trap 'interrupt_build TERM' TERM
   trap 'interrupt_build HUP' HUP
+  trap 'interrupt_build PIPE' PIPE
   while kill -0 "$builder" 2>/dev/null; do
     tell_progress
     sleep 1
   done
-  trap - INT TERM HUP
+  trap - INT TERM HUP PIPE
   wait "$builder"
 }
 
@@ -121,7 +124,12 @@ run_rt() {
 build_copy() {
   copy=$(TMPDIR=${TMPDIR:-/var/tmp} mktemp -d) || give_up 'there is no room for a temporary folder'
   [ -z "${WDQ_JOBS-}" ] || export RT_JOBS=$WDQ_JOBS
-  copy_crates && run_rt "$copy" ci && mkdir -p "${program%/*}" && mv "$copy/crates/wdq/out/wdq" "$program" || return 1
+  copy_crates && run_rt "$copy" ci && mkdir -p "${program%/*}" || return 1
+  # It takes its name once it is whole: the copy may be on another disk.
+  if ! mv "$copy/crates/wdq/out/wdq" "$program.new" || ! mv "$program.new" "$program"; then
+    rm -f "$program.new"
+    return 1
+  fi
   rm -rf "$copy"
 }
 
@@ -135,7 +143,9 @@ build_here() {
 give_up_build() {
   local crate
   if [ -n "$copy" ]; then
-    sed -i "s,$copy,$here,g" "$log"
+    # In the same file, which another build may wait for.
+    local text
+    text=$(sed "s,$copy,$here,g" "$log") && printf '%s\n' "$text" >"$log"
     rm -rf "$copy"
   fi
   end_progress
@@ -150,13 +160,25 @@ give_up_build() {
 
 build() {
   local begun copy='' builder told=none jobs=
-  begun=$(date +%s.%N)
   command -v rt >/dev/null 2>&1 || give_up "the Rattle toolchain's command 'rt' is not on PATH; README.md names the kit"
   if [ -n "${WDQ_JOBS-}" ]; then
     [[ $WDQ_JOBS =~ ^[1-9][0-9]{0,3}$ ]] || give_up "WDQ_JOBS is a number from 1 to 9999, and not '$WDQ_JOBS'"
     jobs=", $WDQ_JOBS at a time"
   fi
-  : >"$log" || give_up "$log can't be written"
+  # One build at a time; who waited takes what the other one built.
+  if ! exec 8>>"$log"; then
+    give_up "$log can't be written"
+  fi
+  if command -v flock >/dev/null && ! flock -n 8; then
+    say 'another build is under way; this one waits for it'
+    flock 8
+  fi
+  if is_built; then
+    exec 8>&-
+    return
+  fi
+  begun=$(date +%s.%N)
+  : >"$log"
   say "building: ${#order[@]} crates are proved$jobs"
   SECONDS=0
   if keeps_proofs; then
@@ -168,6 +190,7 @@ build() {
   end_progress
   # What was edited while it was built is newer than the program.
   touch -d "@$begun" "$program"
+  exec 8>&-
 }
 
 add_crate wdq

@@ -5,6 +5,9 @@
 case ${1-} in -h | --help) sed -n '2,4s/^# \{0,1\}//p' "$0" && exit 0 ;; esac
 top=$(cd "$(dirname "$(readlink -f "${BASH_SOURCE[0]}")")/.." && pwd) || exit 2
 program=$top/crates/wdq/out/wdq
+# In other locales the seconds of EPOCHREALTIME have a comma.
+LC_ALL=C
+export LC_ALL
 times=${1:-200}
 [ -x "$program" ] || { echo "$program isn't built" >&2 && exit 2; }
 room=$(mktemp -d) || exit 2

@@ -14,6 +14,7 @@ With --scheduler the folder of the pages, the program and --work are at the same
 
 import argparse
 import dataclasses
+import fcntl
 import heapq
 import os
 import pathlib
@@ -251,6 +252,12 @@ def replay(arguments):
     with tempfile.TemporaryDirectory() as temporary:
         work = os.path.abspath(arguments.work or temporary)
         os.makedirs(work, exist_ok=True)
+        # Held until the process ends: another run would write the same files.
+        lock = open(os.path.join(work, "lock"), "w")
+        try:
+            fcntl.flock(lock, fcntl.LOCK_EX | fcntl.LOCK_NB)
+        except BlockingIOError:
+            raise Ended(USAGE, f"another replay.py works in {work}") from None
         with open_client(arguments) as client:
             routed = route(arguments.events, arguments.parts, work)
             jobs = [Job(part, events, program, arguments.words, os.getcwd(), work) for part, events in enumerate(routed)]

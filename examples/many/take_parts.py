@@ -22,6 +22,11 @@ import threading
 import time
 import uuid
 
+try:
+    import redis
+except ImportError:
+    redis = None
+
 RECORD = re.compile(rb"^# patch (\d+) ", re.MULTILINE)
 END = b'{"end":true}'
 # This process, on whichever machine it runs: its number there, and what no other process has.
@@ -121,17 +126,24 @@ class Part:
 
     def add(self, number, record):
         """Adds a record, unless it is there."""
+        if not self.has(number):
+            try:
+                self.server.xadd(f"records:{self.number}", {"record": record}, id=f"{number}-0")
+            except redis.ResponseError:
+                # Another process that holds or held the part may have added it since.
+                if not self.has(number):
+                    raise
+
+    def has(self, number):
+        """Whether the record of this number is there."""
         last = self.server.xrevrange(f"records:{self.number}", count=1)
-        if not last or int(last[0][0].split(b"-")[0]) < number:
-            self.server.xadd(f"records:{self.number}", {"record": record}, id=f"{number}-0")
+        return bool(last) and int(last[0][0].split(b"-")[0]) >= number
 
 
 def main():
     """Takes parts until all have ended."""
     given = words()
-    try:
-        import redis
-    except ImportError:
+    if redis is None:
         print("take_parts.py: Debian's package python3-redis is missing", file=sys.stderr)
         return 69
     server = redis.Redis(host="127.0.0.1", port=given.port)

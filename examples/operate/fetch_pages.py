@@ -11,6 +11,7 @@ revision's own text from the wiki's API. Status 0: each page is there; 1: some a
 import argparse
 import collections
 import concurrent.futures
+import itertools
 import json
 import os
 import pathlib
@@ -76,7 +77,8 @@ def save(path, body):
 def take(revision, entity, arguments):
     """Sees to it that a revision's page is there, and says how that went."""
     path = pathlib.Path(arguments.into) / f"{revision}.json"
-    if path.exists():
+    # After a power failure a page that wasn't on the disk yet may be empty.
+    if path.exists() and path.stat().st_size:
         return "there already"
     try:
         save(path, fetch(revision, entity, arguments))
@@ -89,12 +91,15 @@ def take(revision, entity, arguments):
 def take_all(revisions, arguments):
     """Sees to all pages, a few at a time, and counts how they went."""
     counts = collections.Counter()
+    rest = iter(revisions.items())
     with Progress("pages") as progress, concurrent.futures.ThreadPoolExecutor(arguments.at_once) as pool:
-        tasks = [pool.submit(take, revision, entity, arguments) for revision, entity in revisions.items()]
         try:
-            for task in concurrent.futures.as_completed(tasks):
-                counts[task.result()] += 1
-                progress.show(sum(counts.values()))
+            # A thousand at a time: each task takes 2 kB of memory.
+            while some := list(itertools.islice(rest, 1000)):
+                tasks = [pool.submit(take, revision, entity, arguments) for revision, entity in some]
+                for task in concurrent.futures.as_completed(tasks):
+                    counts[task.result()] += 1
+                    progress.show(sum(counts.values()))
         except BaseException:
             pool.shutdown(wait=False, cancel_futures=True)
             raise
@@ -105,7 +110,7 @@ def read_arguments():
     parser = argparse.ArgumentParser(description=__doc__, formatter_class=argparse.RawDescriptionHelpFormatter)
     wiki.add_arguments(parser)
     parser.add_argument("--into", required=True, metavar="FOLDER", help="the folder of the pages, as --from of wdq names it")
-    parser.add_argument("--at-once", type=int, default=4, metavar="N", help="how many requests at a time; without it, 4")
+    parser.add_argument("--at-once", type=wiki.at_least_one, default=4, metavar="N", help="how many requests at a time; without it, 4")
     parser.add_argument("events", nargs="+", metavar="EVENTS", help="event files; - is standard input")
     return parser.parse_args()
 

@@ -13,6 +13,7 @@ the greatest time so far.
 
 import argparse
 import datetime
+import fcntl
 import http.client
 import json
 import os
@@ -27,7 +28,7 @@ import urllib.parse
 import urllib.request
 
 import wiki
-from event_lines import refusal_of
+from event_lines import moment, refusal_of
 from fetch_pages import save
 from progress import Progress
 
@@ -36,6 +37,8 @@ STREAM = "https://stream.wikimedia.org/v2/stream/mediawiki.page_change.v1"
 NAMESPACES = (0, 120, 146)
 KINDS = {"create": "edit", "edit": "edit", "delete": "delete", "undelete": "undelete"}
 SECONDS_OF_SILENCE = 60
+# Wikidata is edited several times a second: after so long a time without a change, the wiki no longer has what came between.
+LONGEST_GAP = datetime.timedelta(minutes=10)
 
 
 def messages(lines):
@@ -68,9 +71,9 @@ def event_of(message):
     kind = KINDS.get(change["page_change_kind"])
     if kind is None or change["page"]["namespace_id"] not in NAMESPACES:
         return None
-    moment = re.sub(r"(\.[0-9]{6})[0-9]+Z$", r"\1Z", change["dt"])
+    instant = re.sub(r"(\.[0-9]{6})[0-9]+Z$", r"\1Z", change["dt"])
     entity = change["page"]["page_title"].rpartition(":")[2]
-    return {"kind": kind, "entity": entity, "rev": change["revision"]["rev_id"], "time": moment}
+    return {"kind": kind, "entity": entity, "rev": change["revision"]["rev_id"], "time": instant}
 
 
 def line_of(message):
@@ -140,17 +143,31 @@ class Batches:
     def __init__(self, arguments):
         self.folder = pathlib.Path(arguments.into)
         self.folder.mkdir(parents=True, exist_ok=True)
+        # Held until the process ends: two scripts would write the same files.
+        self.lock = open(self.folder / "lock", "w")
+        try:
+            fcntl.flock(self.lock, fcntl.LOCK_EX | fcntl.LOCK_NB)
+        except BlockingIOError:
+            raise ValueError(f"another process writes into {self.folder}") from None
         self.place = self.folder / "place"
         kept = json.loads(self.place.read_text()) if self.place.exists() else {}
         self.last_id, self.seen, self.number = kept.get("last_id"), kept.get("seen", ""), kept.get("batch", 0)
-        self.number = max([self.number, *(int(path.stem) for path in self.folder.glob("*.jsonl") if path.stem.isdecimal())])
+        there = [int(path.stem) for path in self.folder.glob("*.jsonl") if path.stem.isdecimal()]
+        if there and not self.last_id and not arguments.since:
+            raise ValueError(f"{self.folder} has batches but no file place: say by --since where on the stream to begin")
+        self.number = max([self.number, *there])
+        self.since = (arguments.since or "")[:19]
         self.delay = datetime.timedelta(seconds=arguments.delay)
         self.lines = []
 
     def add(self, line):
         self.lines.append(line)
         # Times in whole seconds have all digits in front, so that their texts are in the order of the times.
-        self.seen = max(self.seen, json.loads(line)["time"][:19])
+        second = json.loads(line)["time"][:19]
+        before = self.seen or self.since
+        if before and datetime.datetime.fromisoformat(second) - datetime.datetime.fromisoformat(before) > LONGEST_GAP:
+            print(f"follow_stream.py: the stream has nothing from {before}Z to {second}Z: what changed then is lost; load a newer dump", file=sys.stderr)
+        self.seen = max(self.seen, second)
 
     def close(self, last_id):
         """Writes the events so far as a file that a watermark closes, and then the place."""
@@ -195,7 +212,7 @@ def read_arguments():
     parser = argparse.ArgumentParser(description=__doc__, formatter_class=argparse.RawDescriptionHelpFormatter)
     parser.add_argument("--agent", type=wiki.agent, required=True, metavar="TEXT", help='who asks, as "mirror/1.0 (jane@example.org)"')
     parser.add_argument("--into", required=True, metavar="FOLDER", help="where the event files and the place are written")
-    parser.add_argument("--since", metavar="TIME", help="where to begin, if there is no place yet; without it, now")
+    parser.add_argument("--since", type=moment, metavar="TIME", help="where to begin, if there is no place yet; without it, now")
     parser.add_argument("--seconds", type=float, default=60, metavar="S", help="a batch ends after so many seconds; without it, 60")
     parser.add_argument("--events", type=int, default=10_000, metavar="N", help="or with so many events; without it, 10000")
     parser.add_argument("--delay", type=int, default=10, metavar="S", help="how many seconds late an event may come; without it, 10")

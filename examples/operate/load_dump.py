@@ -9,7 +9,8 @@ dump was begun: follow the stream from there, so that nothing that changed meanw
 are no items, properties or lexemes. A dump has no redirects.
 
 The file may be packed by gzip or bzip2; - is standard input, unpacked. Status 0: each line was taken or is of another kind of entity;
-1: some lines are no entities, and are named.
+1: some lines are no entities, and are named; 2: arguments are wrong, the dump can't be read to its end, or a page or an event can't be
+written.
 """
 
 import argparse
@@ -88,6 +89,8 @@ def load(lines, arguments, out):
                 write_page(folder, edit["rev"], line)
                 print(json.dumps(edit, separators=(",", ":")), file=out)
                 greatest = max(greatest, edit["time"][:19])
+    # The pages are on the disk before the line that closes their events.
+    os.sync()
     mark = arguments.began or (greatest and greatest + "Z")
     if mark:
         print(json.dumps({"watermark": mark}), file=out)
@@ -112,9 +115,11 @@ def main():
         os.makedirs(arguments.into, exist_ok=True)
         with open_dump(arguments.dump) as lines:
             counts = load(lines, arguments, sys.stdout)
+        sys.stdout.flush()
     except (OSError, EOFError, zlib.error) as error:
-        print(f"load_dump.py: {arguments.dump}: {error}", file=sys.stderr)
-        return 1
+        print(f"load_dump.py: {arguments.dump}: {error}; what was printed isn't the whole", file=sys.stderr, flush=True)
+        # At once: what is still in the buffer would fail again at the exit, with status 120.
+        os._exit(2)
     print("load_dump.py: " + (", ".join(f"{kind} {counts[kind]}" for kind in sorted(counts)) or "no entity"), file=sys.stderr)
     return 1 if counts["fault"] else 0
 

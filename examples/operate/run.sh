@@ -27,7 +27,7 @@ failed=0
 
 # Says how a step went.
 told() {
-  if [ "$2" -eq 0 ]; then echo "as expected: $1"; else echo "not as expected: $1"; failed=1; fi
+  if [ "$1" -eq 0 ]; then echo "as expected: $2"; else echo "not as expected: $2"; failed=1; fi
 }
 
 # The export of a replay of standard input over the pages of a folder, without its head.
@@ -45,11 +45,11 @@ wait_for() {
 # --- What a line lacks ---
 
 ./check_lines.py "$wdq" ../../crates/cases/data/*.case > "$work/said.txt"
-told "explain.py and wdq refuse the same lines: $(tail -1 "$work/said.txt")" $?
+told $? "explain.py and wdq refuse the same lines: $(tail -1 "$work/said.txt")"
 
 jq -R -c -f ../feed/clean.jq < ../feed/untidy.txt > "$work/tidy.jsonl" 2> "$work/said.txt" &&
   ./explain.py "$work/tidy.jsonl" 2>/dev/null && grep -q 'line 2 is left out: empty' "$work/said.txt"
-told "clean.jq names what it leaves out, and explain.py finds nothing more" $?
+told $? "clean.jq names what it leaves out, and explain.py finds nothing more"
 
 # --- From a dump to a store ---
 
@@ -63,7 +63,7 @@ events=$((entities / 20))
 set -- --agent "try/1.0 (nobody@example.org)" --pause 0.05
 
 ./load_dump.py --into "$work/pages" --began "$began" "$work/wiki/dump.json.gz" > "$work/dump.jsonl" 2> "$work/said.txt"
-told "load_dump.py takes a dump: $(tail -1 "$work/said.txt")" $?
+told $? "load_dump.py takes a dump: $(tail -1 "$work/said.txt")"
 
 for part in 0 1 2; do
   ./load_dump.py --into "$work/parts" --began "$began" --shard $part/3 "$work/wiki/dump.json.gz" 2>/dev/null
@@ -71,7 +71,12 @@ done | sort -u > "$work/parts.jsonl"
 sort "$work/dump.jsonl" | cmp -s - "$work/parts.jsonl" && diff -rq "$work/parts" "$work/pages" >/dev/null &&
   zcat "$work/wiki/dump.json.gz" | grep '"type": "' | sed 's/,$//' | sort > "$work/rows.txt" &&
   for page in "$work"/pages/*.json; do cat "$page"; echo; done | sort | cmp -s - "$work/rows.txt"
-told "its three parts are the whole, and each page has the bytes of the dump" $?
+told $? "its three parts are the whole, and each page has the bytes of the dump"
+
+head -c 3000 "$work/wiki/dump.json.gz" > "$work/cut.json.gz"
+./load_dump.py --into "$work/cut" "$work/cut.json.gz" > "$work/cut.jsonl" 2> "$work/said.txt"
+[ $? -eq 2 ] && grep -q "isn't the whole" "$work/said.txt"
+told $? "load_dump.py says that a dump was cut off"
 
 # --- The stream, killed once ---
 
@@ -82,23 +87,32 @@ kill -9 $follower 2>/dev/null
 wait $follower 2>/dev/null
 first=$(find "$work/batches" -name '*.jsonl' | wc -l)
 ./follow_stream.py "$@" --stream "$site/stream" --into "$work/batches" --since "$began" --events $events --idle 5 2>> "$work/said.txt"
-told "follow_stream.py is killed after $first batches and goes on: $(tail -1 "$work/said.txt")" $?
+told $? "follow_stream.py is killed after $first batches and goes on: $(tail -1 "$work/said.txt")"
 
 jq -R -c -f ../feed/events.jq < "$work/wiki/stream.txt" | sort -u > "$work/changes.jsonl"
 cat "$work"/batches/0*.jsonl | grep '"kind"' | sort -u | cmp -s - "$work/changes.jsonl"
 taken=$?
 breaks=$(grep -c 'connects again' "$work/said.txt")
-told "its batches have each of the stream's $(wc -l < "$work/changes.jsonl") events, over $breaks broken connections" $taken
+told $taken "its batches have each of the stream's $(wc -l < "$work/changes.jsonl") events, over $breaks broken connections"
+
+flock "$work/batches/lock" ./follow_stream.py "$@" --stream "$site/stream" --into "$work/batches" --idle 5 2> "$work/said.txt"
+[ $? -eq 1 ] && grep -q 'another process writes' "$work/said.txt"
+told $? "two scripts don't follow into one folder"
+
+mkdir "$work/begun" && cp "$work/dump.jsonl" "$work/begun/000000.jsonl"
+./follow_stream.py "$@" --stream "$site/stream" --into "$work/begun" --idle 5 2> "$work/said.txt"
+[ $? -eq 1 ] && grep -q -e '--since' "$work/said.txt"
+told $? "behind a dump follow_stream.py wants to know where to begin"
 
 # --- Pages, a replay, and what is in doubt ---
 
 cat "$work/dump.jsonl" "$work"/batches/0*.jsonl > "$work/events.jsonl"
 ./explain.py "$work/events.jsonl" 2>/dev/null
-told "wdq refuses no line of it" $?
+told $? "wdq refuses no line of it"
 
 ./fetch_pages.py "$@" --site "$site" --into "$work/pages" "$work/events.jsonl" 2> "$work/said.txt"
 [ $? -eq 1 ] && grep -q ' status 404' "$work/said.txt"
-told "fetch_pages.py fetches what there is: $(tail -1 "$work/said.txt")" $?
+told $? "fetch_pages.py fetches what there is: $(tail -1 "$work/said.txt")"
 
 "$wdq" replay --from "$work/pages" --state --side < "$work/events.jsonl" > "$work/first.txt"
 last=$(find "$work/batches" -name '*[0-9].jsonl' | sort | tail -1)
@@ -106,25 +120,25 @@ now=${last%.jsonl}-now.jsonl
 in_doubt=$(sh ../feed/doubtful.sh < "$work/first.txt" | wc -l)
 [ "$in_doubt" -gt 0 ] && ./reconcile.py "$@" --site "$site" "$work/first.txt" > "$now" 2> "$work/said.txt" &&
   [ "$(wc -l < "$now")" -eq "$in_doubt" ] && grep -q '"deleted"' "$now"
-told "reconcile.py asks for $in_doubt entities in doubt: $(tail -1 "$work/said.txt")" $?
+told $? "reconcile.py asks for $in_doubt entities in doubt: $(tail -1 "$work/said.txt")"
 
 cat "$work/dump.jsonl" "$work"/batches/0*.jsonl > "$work/events.jsonl"
 ./fetch_pages.py "$@" --site "$site" --into "$work/pages" "$work/events.jsonl" 2>/dev/null
 "$wdq" replay --from "$work/pages" --export --side < "$work/events.jsonl" > "$work/second.txt"
 ! grep '^# side [a-z-]* open' "$work/second.txt"
-told "after them no entity is in doubt" $?
+told $? "after them no entity is in doubt"
 
 ./fetch_pages.py "$@" --site "$site" --into "$work/pages" "$work/events.jsonl" 2> "$work/said.txt"
 ! grep -q ' fetched' "$work/said.txt"
-told "what is there isn't fetched again: $(tail -1 "$work/said.txt")" $?
+told $? "what is there isn't fetched again: $(tail -1 "$work/said.txt")"
 
 # --- The store ---
 
 grep -v '^#' "$work/second.txt" > "$work/export.txt" && export_over "$work/wiki/now" < "$work/wiki/now.jsonl" | cmp -s - "$work/export.txt"
-told "the store's $(wc -l < "$work/export.txt") triples are those of the pages that the wiki has now" $?
+told $? "the store's $(wc -l < "$work/export.txt") triples are those of the pages that the wiki has now"
 
 { grep '"kind"' "$work/dump.jsonl"; cat "$work/changes.jsonl"; } | export_over "$work/pages" | cmp -s - "$work/export.txt"
-told "one replay over all, without watermarks and reconciliations, gives the same" $?
+told $? "one replay over all, without watermarks and reconciliations, gives the same"
 
 # --- Questions over a named pipe ---
 
@@ -139,7 +153,7 @@ label='<http://www.wikidata.org/entity/Q1> <http://www.w3.org/2000/01/rdf-schema
   echo "# ask 2: $(wc -l < "$work/export.txt") triples"
   cat "$work/export.txt"
 } | cmp -s - "$work/answers.txt"
-told "ask.sh answers at once: $(head -n 1 "$work/answers.txt")" $?
+told $? "ask.sh answers at once: $(head -n 1 "$work/answers.txt")"
 
 # --- Step by step into a SPARQL store ---
 
@@ -209,41 +223,51 @@ fi
 set -- --home "$home" --agent "step/1.0 (nobody@example.org)" --site "$site" --pause 0.05 ${url:+--post "$url"} --textfile "$work/wdq.prom"
 
 step "$@"
-told "the first step brings $(jq .triples "$home/metrics.jsonl") triples of the dump" $?
+told $? "the first step brings $(jq .triples "$home/metrics.jsonl") triples of the dump"
+cp -r "$home" "$work/older"
 for _ in 1 2 3 4 5 6 7; do step "$@" || break; done
 [ "$(done_so_far)" = 000007 ]
-told "seven steps take seven batches" $?
+told $? "seven steps take seven batches"
 step "$@" --post http://127.0.0.1:9/
 [ $? -eq 1 ] && [ "$(done_so_far)" = 000007 ]
-told "a step whose store can't be reached ends with status 1" $?
+told $? "a step whose store can't be reached ends with status 1"
+if [ -n "$url" ]; then
+  step "$@" --home "$work/older"
+  [ $? -eq 4 ] && grep -q 'the store is at record' "$work/said.txt"
+  told $? "a step in an older copy of the folder is refused"
+fi
+cp "$home/done" "$work/done" && : > "$home/done"
+step "$@"
+[ $? -eq 4 ] && cp "$work/done" "$home/done"
+told $? "a step without the number of the batch before is refused"
 kill_step "$@" && former=$(done_so_far) && step "$@" && [ "$(done_so_far)" = "$(next_of "$former")" ]
-told "the step after batch $former is killed, and run again" $?
+told $? "the step after batch $former is killed, and run again"
 step --all "$@"
-told "step.sh --all takes the rest" $?
+told $? "step.sh --all takes the rest"
 quiet=0
 while add_quiet_batch && step "$@" && [ "$(in_doubt)" -gt 0 ] && [ $quiet -lt 30 ]; do quiet=$((quiet + 1)); done
 [ "$(in_doubt)" -eq 0 ]
-told "no entity is in doubt after batch $(done_so_far)" $?
+told $? "no entity is in doubt after batch $(done_so_far)"
 
 jq -s -r '"\(length) steps, \(map(.events) | add) events, \(map(.late) | add) late, \(map(.reconciliations) | add) reconciliations, "
   + "\(map(.missing) | add) pages missing, \(map(.adds) | add) triples in, \(map(.removes) | add) out"' "$home/metrics.jsonl" > "$work/summary.txt"
 jq -s -e 'map(.batch) == [range(length)] and length > 20 and (map(.late) | add) > 0 and (map(.missing) | add) > 0' "$home/metrics.jsonl" > "$work/said.txt"
-told "each batch has one line of figures: $(cat "$work/summary.txt")" $?
+told $? "each batch has one line of figures: $(cat "$work/summary.txt")"
 grep -q '^wdq_open 0$' "$work/wdq.prom" && grep -q "^wdq_triples $(wc -l < "$work/export.txt")$" "$work/wdq.prom"
-told "node_exporter finds the last ones" $?
+told $? "node_exporter finds the last ones"
 
 cat "$home"/batches/0*.jsonl | export_over "$home/pages" | cmp -s - "$work/export.txt"
-told "one replay over all batches gives what the wiki has now" $?
+told $? "one replay over all batches gives what the wiki has now"
 cat "$home"/records/0*.txt | "$wdq" follow --export | grep -v '^#' | cmp -s - "$work/export.txt"
-told "so do the records of all steps" $?
+told $? "so do the records of all steps"
 if [ -n "$url" ]; then
   python3 -c 'import sys, urllib.request as r; sys.stdout.buffer.write(r.urlopen(sys.argv[1]).read())' "$url" | cmp -s - "$work/export.txt"
-  told "and so does rdflib, after record $(stored)" $?
+  told $? "and so does rdflib, after record $(stored)"
 fi
 last=$(done_so_far)
 "$wdq" replay --resume "$home/snapshots/$last" --save "$work/look" --state --side < /dev/null | cmp -s - "$home/sides/$last.txt"
-told "show_snapshot.py shows the $(grep -c '^# s' "$home/sides/$last.txt") states and entries that wdq shows" $?
+told $? "show_snapshot.py shows the $(grep -c '^# s' "$home/sides/$last.txt") states and entries that wdq shows"
 add_quiet_batch && step "$@" --keep 3 && tail -n 1 "$home/metrics.jsonl" | jq -e '.adds == 0 and .removes == 0' > "$work/said.txt" &&
   [ "$(find "$home/batches" -name '*[0-9].jsonl' | wc -l)" -eq 4 ]
-told "a step forgets old batches, and $(find "$home/pages" -name '*.json' | wc -l) pages are left" $?
+told $? "a step forgets old batches, and $(find "$home/pages" -name '*.json' | wc -l) pages are left"
 exit $failed

@@ -60,8 +60,13 @@ for needed in python3 jq flock; do
   command -v $needed >/dev/null || fail "$needed is missing" 2
 done
 wdq=${WDQ:-$here/../../wdq}
-"$wdq" replay < /dev/null > /dev/null || fail "$wdq doesn't run" 2
+# shellcheck disable=SC2086 # words are split
+"$wdq" replay $limits < /dev/null > /dev/null || fail "$wdq doesn't run${limits:+ with$limits}" 2
 mkdir -p "$home/pages" "$home/records" "$home/snapshots" "$home/sides" || exit 1
+# With empty input the scripts only check their words.
+# shellcheck disable=SC2086 # words are split
+said=$("$here/fetch_pages.py" --agent "$agent" $wiki --into "$home/pages" /dev/null 2>&1) || fail "$said" 2
+said=$("$here/../sparql/updates.py" ${graph:+--graph "$graph"} < /dev/null 2>&1) || fail "$said" 2
 
 # --- What a step does; each part ends with a file that is whole or not there, and does nothing where it is there ---
 
@@ -70,6 +75,7 @@ find_batch() {
   before='' batch=
   if [ -e "$home/done" ]; then
     before=$(cat "$home/done")
+    case $before in '' | *[!0-9]*) fail "$home/done has no number of a batch: write that of the last line of metrics.jsonl into it, with six digits" 4 ;; esac
     number=${before#"${before%%[!0]*}"}
     batch=$(printf '%06d' $((${number:-0} + 1)))
   else
@@ -78,7 +84,8 @@ find_batch() {
       break
     done
   fi
-  [ -e "$home/batches/$batch.jsonl" ]
+  [ -e "$home/batches/$batch.jsonl" ] || return 1
+  tail -n 1 "$home/batches/$batch.jsonl" | jq -e .watermark > /dev/null 2>&1 || fail "batches/$batch.jsonl isn't closed by a watermark: it is not whole" 4
 }
 
 # The reconciliations that go in front of the batch: BATCH-now.jsonl.
@@ -89,7 +96,7 @@ ask_the_wiki() {
   # shellcheck disable=SC2086 # words are split
   "$here/reconcile.py" --agent "$agent" $wiki --after "$mark" --batch "${number:-0}" "$home/sides/$before.txt" > "$home/now.part" ||
     fail "the wiki doesn't say what is so now of what is in doubt"
-  mv "$home/now.part" "$now" || fail "$now can't be written"
+  put "$home/now.part" "$now" || fail "$now can't be written"
 }
 
 # A page that isn't there, or that the wiki doesn't give, is one more entry of the side output, and the next batches ask again.
@@ -113,20 +120,35 @@ run_wdq() {
   esac
 }
 
+# Writes a file to the disk, and then gives it its name there.
+put() {
+  sync "$1" && mv "$1" "$2" && sync "${2%/*}"
+}
+
+# Before a batch's records are made, the store has those of all batches before; if not, this folder or the store is an older copy.
+compare_store() {
+  [ -n "$post" ] || return 0
+  there=$("$here/../sparql/updates.py" --post "$post" ${query:+--query "$query"} --number) || fail "the store can't be reached"
+  ours=0
+  [ -z "$before" ] || ours=$(head -n 1 "$home/snapshots/$before" | jq .patches)
+  [ "$there" = "$ours" ] || fail "the store is at record $there, and the batch before ends with record $ours (docs/OPERATING.md)" 4
+}
+
 # The records and the snapshot, from the snapshot of the batch before.
 make_records() {
   [ -z "$before" ] || [ -e "$home/snapshots/$before" ] || fail "snapshots/$before isn't there" 4
   if [ ! -e "$home/snapshots/$batch" ]; then
+    compare_store
     set -- "$home/batches/$batch.jsonl"
     [ ! -e "$now" ] || set -- "$now" "$@"
     cat "$@" > "$home/events.part" || exit 1
     # shellcheck disable=SC2086 # words are split
     run_wdq patches --from "$home/pages" --max-bytes 4294967295 $limits ${before:+--resume "$home/snapshots/$before"} \
-      --save "$home/snapshots/$batch.new" < "$home/events.part" > "$home/records/$batch.txt"
-    sync "$home/records/$batch.txt" && mv "$home/snapshots/$batch.new" "$home/snapshots/$batch" || exit 1
+      --save "$home/snapshots/$batch.new" < "$home/events.part" > "$home/records.part"
+    put "$home/records.part" "$home/records/$batch.txt" && put "$home/snapshots/$batch.new" "$home/snapshots/$batch" || exit 1
     rm -f "$home/events.part"
   fi
-  "$here/show_snapshot.py" "$home/snapshots/$batch" > "$home/side.part" && mv "$home/side.part" "$home/sides/$batch.txt" || exit 1
+  "$here/show_snapshot.py" "$home/snapshots/$batch" > "$home/side.part" && put "$home/side.part" "$home/sides/$batch.txt" || exit 1
 }
 
 # The store itself knows up to which record it is.
@@ -137,6 +159,7 @@ send_records() {
   case $? in
     0) ;;
     3) fail "the store doesn't take the records" ;;
+    129 | 130 | 137 | 143) fail "a signal ended updates.py" ;;
     *) fail "the records aren't those that the store waits for (docs/OPERATING.md)" 4 ;;
   esac
 }
@@ -152,7 +175,7 @@ forget() {
   for file in "$home"/batches/[0-9]*.jsonl; do
     old=${file##*/}
     old=${old%.jsonl}
-    [ "${old%-now}" -lt $((${number:-0} + 1 - keep)) ] || break
+    [ "${old%-now}" -lt $((${number:-0} + 1 - keep)) ] || continue
     jq -r 'select(.rev) | "\(.rev).json"' "$file" | (cd "$home/pages" && xargs rm -f) && rm -f "$file"
   done
 }
@@ -168,7 +191,7 @@ while find_batch; do
   send_records
   "$here/metrics.py" --home "$home" --batch "$batch" ${before:+--before "$before"} --seconds "$(($(date +%s) - begun))" \
     ${textfile:+--textfile "$textfile"} || exit 1
-  echo "$batch" > "$home/done.part" && mv "$home/done.part" "$home/done" || exit 1
+  echo "$batch" > "$home/done.part" && put "$home/done.part" "$home/done" || exit 1
   forget
   [ $is_all = yes ] || break
 done

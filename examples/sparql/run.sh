@@ -21,7 +21,7 @@ size=${SIZE:-2000}
 
 # Says how a step went.
 told() {
-  if [ "$2" -eq 0 ]; then echo "as expected: $1"; else echo "not as expected: $1"; failed=1; fi
+  if [ "$1" -eq 0 ]; then echo "as expected: $2"; else echo "not as expected: $2"; failed=1; fi
 }
 
 # --- The escapes of N-Triples: each object, and how updates.py writes it ---
@@ -80,14 +80,14 @@ try_escapes() {
   } > "$work/escapes.records"
   awk -F ' [|] ' '{ print "<urn:line:" NR "> <urn:p> " $2 " ." }' "$work/escapes.txt" > "$work/written.txt"
   ./updates.py < "$work/escapes.records" | grep '^<urn:line' | cmp -s - "$work/written.txt"
-  told "$(wc -l < "$work/escapes.txt") escapes as SPARQL wants them" $?
+  told $? "$(wc -l < "$work/escapes.txt") escapes as SPARQL wants them"
   refused > "$work/refused.txt"
   taken=0
   while read -r object; do
     printf '# patch 1 +1 -0\n<urn:s> <urn:p> %s .\n' "$object" | ./updates.py > "$work/none.txt" 2>/dev/null
     if [ $? -ne 1 ] || [ -s "$work/none.txt" ]; then taken=1; echo "not refused: $object"; fi
   done < "$work/refused.txt"
-  told "$(wc -l < "$work/refused.txt") lines refused that are no triples" $taken
+  told $taken "$(wc -l < "$work/refused.txt") lines refused that are no triples"
 }
 
 # --- The streams: NAME.records and NAME.export ---
@@ -184,7 +184,7 @@ try_stream() {
   ./updates.py $words --batch "$3" < "$work/$2.records"
   took=$(($(date +%s%N) - begun))
   [ "$(./updates.py --post "$url" --number)" = "$records" ] && "same_$1" "$work/$2.export"
-  told "$1 holds the export of $2: records $records, joined by $3, $((records * 1000000000 / took)) a second" $?
+  told $? "$1 holds the export of $2: records $records, joined by $3, $((records * 1000000000 / took)) a second"
   stop
 }
 
@@ -208,7 +208,7 @@ try_killed() {
   rm -f "$work/counts.db"*
   records=$(grep -c '^# patch' "$work/edits.records")
   ./updates.py $words < "$work/edits.records" && [ "$reached" -lt "$records" ] && "same_$1" "$work/edits.export"
-  told "$1 holds the export of edits, updates.py killed at records $first and $reached" $?
+  told $? "$1 holds the export of edits, updates.py killed at records $first and $reached"
   stop
 }
 
@@ -233,14 +233,14 @@ try_growing() {
   done
   { cat "$work/events.jsonl"; tail -n 1 "$work/edits.jsonl"; } > "$work/grown.jsonl"
   step cat && [ $fault -eq 0 ] && "same_$1" "$work/edits.export"
-  told "$1 holds the export of edits, whose file grew at records$numbers and had events that waited" $?
+  told $? "$1 holds the export of edits, whose file grew at records$numbers and had events that waited"
   step 'sed s/plain/other/' 2> "$work/told.txt"
   [ $? -eq 4 ] && grep -q 'were others' "$work/told.txt" && "same_$1" "$work/edits.export"
-  told "where a page was another one: $(cat "$work/told.txt")" $?
+  told $? "where a page was another one: $(cat "$work/told.txt")"
   mv "$work/pages/1.json" "$work/kept.json"
   step cat 2> "$work/told.txt"
   [ $? -eq 4 ] && "same_$1" "$work/edits.export"
-  told "where a page is missing: $(cat "$work/told.txt")" $?
+  told $? "where a page is missing: $(cat "$work/told.txt")"
   mv "$work/kept.json" "$work/pages/1.json"
   stop
 }
@@ -248,7 +248,7 @@ try_growing() {
 try_escapes_in() {
   "start_$1"
   ./updates.py $words < "$work/escapes.records" && ./compare.py --query "$url" --graph "$2" < "$work/written.txt" > "$work/compared.txt"
-  told "$1 reads the escapes back" $?
+  told $? "$1 reads the escapes back"
   stop
 }
 
@@ -269,7 +269,7 @@ try_spellings() {
     echo "virtuoso with $(echo "$mode" | cut -d ' ' -f 2) holds$held of +5, +5.00 and 5.0, where the last of them goes at step 3"
   done
   [ "$held" = " 1 1 0" ]
-  told "virtuoso with counts keeps a value until its last spelling goes" $?
+  told $? "virtuoso with counts keeps a value until its last spelling goes"
   stop
 }
 

@@ -348,7 +348,8 @@ class Store:
         return Applied(number, digests.get(str(number)))
 
     def select(self, query):
-        url = f"{self.query_url}?{urllib.parse.urlencode({'query': query})}"
+        mark = "&" if "?" in self.query_url else "?"
+        url = f"{self.query_url}{mark}{urllib.parse.urlencode({'query': query})}"
         answer = self.open(url, None, {"Accept": "application/sparql-results+json"})
         try:
             return json.loads(answer)["results"]["bindings"]
@@ -395,7 +396,7 @@ def apply(records, target, counts, batch, graph):
             changes, size = {}, 0
     if size:
         finish(changes, chain, target, counts, graph)
-    if 0 < chain.last.number < applied and chain.last.digest is not None:
+    if 0 < chain.last.number < applied:
         raise Stopped(4, f"the stream ends at record {chain.last.number}, and the store is at record {applied}")
 
 
@@ -445,7 +446,7 @@ def main():
     except Stopped as stopped:
         print(f"updates.py: {stopped}", file=sys.stderr)
         return stopped.status
-    except (sqlite3.Error, BrokenPipeError) as fault:
+    except (sqlite3.Error, OSError) as fault:
         print(f"updates.py: {fault}", file=sys.stderr)
         return 3
     except KeyboardInterrupt:
