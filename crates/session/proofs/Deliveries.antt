@@ -483,6 +483,7 @@ event_cut_off environment e reported matched now = inr (inl (
   NotApplied Starved,
   refl,
   record {
+    kind = tt;
     held_up = tt;
     mapped = λ version is. is;
     world = λ ds start at_rest. inl (refl, refl, refl);
@@ -494,7 +495,7 @@ pub mark_cut_off : (halt : Halt) (environment : Environment) (m : ℤ) (reported
     KeepsVersion now.mapped then.mapped now.world.played.records then.world.played.records → StaysWithin halt environment reported (with_world now (after_mark now.world m)) then →
     CutsOff (stop_of_halt halt) environment (turn reported matched (Watermark m)) now then
 mark_cut_off halt environment m reported matched now then held_up keeps stays =
-    inr (inl (halt, refl, record { held_up = held_up; mapped = keeps; world = λ ds start at_rest. inr (mark_begun environment ds start halt now then reported m stays at_rest) }))
+    inr (inl (halt, refl, record { kind = tt; held_up = held_up; mapped = keeps; world = λ ds start at_rest. inr (mark_begun environment ds start halt now then reported m stays at_rest) }))
 
 -- a question was answered in part
 pub ask_cut_off : (report : Report) (why : Unwritten) (environment : Environment) (q : Question) (reported matched : ℕ) (now : Stage) (out : Output) → environment.report ≡ report →

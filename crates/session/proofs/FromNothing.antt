@@ -4,7 +4,7 @@ use Rattle.delivery.specs.declared.Delivery.{Delivery}
 use Rattle.delivery.specs.declared.Delivery.TheVariants.{Event as Told, Watermark, Ask, Mapping, Match}
 use Rattle.replay_model.specs.Acceptance.{version_in_force}
 use Rattle.replay_model.specs.Play.{Replies, fetches, fetches_to_end, play, played}
-use Rattle.replay_model.specs.ReplayState.{ReplayState, after_end, ended, fetches_due, following, following_to_end}
+use Rattle.replay_model.specs.ReplayState.{ReplayState, after_end, ended, fetches_due, following, following_to_end, nothing_delivered, nothing_delivered_within}
 use Rattle.replay_model.specs.Transcript.{Question, answer_said, question_of, said}
 use Rattle.replay_model.proofs.FetchCounts.{fetches-delivered, fetches-end}
 use Rattle.replay_model.proofs.Following.{following-end, newly_due-end, newly_due-watermark}
@@ -22,6 +22,10 @@ use Rattle.session.specs.Course.{course_ended, course_to_end, led_to, version_at
 use Rattle.session.specs.Moment.{Beginning, IsFirst, horizon_at, standing}
 use Rattle.session.specs.OneRun.{said_from_start}
 use Rattle.session.proofs.Along.{version-along}
+
+-- a world to which nothing was delivered
+pub still_nothing : (w : ReplayState) → w ≡ nothing_delivered → w ≡ nothing_delivered_within w.buffer.horizon
+still_nothing w is = is ∙ ap (λ (s : ReplayState). nothing_delivered_within s.buffer.horizon) (sym is)
 
 -- where a run stands whose horizon this is
 first_standing : (start : Beginning) → IsFirst start → (replies : Replies) → standing start ≡ checkpoint (horizon_at start) replies []

@@ -8,7 +8,7 @@ use Rattle.words.specs.declared.plan.Plan.TheVariants.{Replay, Drill, Patches, F
 use Rattle.session.specs.declared.status.Status.{Status}
 use Rattle.session.specs.declared.stop.Stop.{Stop}
 use Rattle.session.specs.Records.{FollowEnding, FollowStopped}
-use Rattle.session.specs.Headline.{ReplayEnding, Stopped}
+use Rattle.session.specs.Headline.{LeavesSnapshot, ReplayEnding, Stopped}
 use Rattle.session.specs.Moment.{Moment, Run}
 use Rattle.session.specs.Reading.{TakesByNeed}
 use Rattle.session.specs.Stop.{stop_of}
@@ -61,8 +61,9 @@ follow_stopped status stop choices before now is stopped taken = record { outcom
 
 -- a replay that stopped
 pub replay_stopped : (status : Status) (stop : Stop) (run : Run) (before now : Moment) → stop_of status ≡ Some stop → Stopped stop run before now →
-    IfSome before.input.left (λ bytes. TakesByNeed (max_bytes_of run.choices) bytes now.input.left before.last_read now.last_read) → ReplayEnding status run before now
-replay_stopped status stop run before now is stopped taken = record { outcome = rw is stopped; taken = taken }
+    IfSome before.input.left (λ bytes. TakesByNeed (max_bytes_of run.choices) bytes now.input.left before.last_read now.last_read) → LeavesSnapshot stop run before now → now.resumed ≡ before.resumed →
+    ReplayEnding status run before now
+replay_stopped status stop run before now is stopped taken left unread = record { outcome = rw is stopped; taken = taken; snapshot = rw is left; resumed = unread }
 
 pub for_split : (P : SplitChoices → Type 0) (read choices : SplitChoices) → Some (Split read) ≡ Some (Split choices) → P read → P choices
 for_split P read choices same p =

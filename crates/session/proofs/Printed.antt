@@ -15,7 +15,7 @@ use Rattle.text_output.proofs.Parts.{after_twice}
 use Rattle.checkpoint.specs.declared.numbers.Numbers.{Numbers}
 use Rattle.session.specs.Answering.{closing_by, said_by}
 use Rattle.session.specs.Course.{Course, course_ended, course_printed, version_at}
-use Rattle.session.specs.Headline.{Ending, HasPrinted, HasTakenAll, IsFunction, IsReplayed, Stopped, Unsaved, course_of}
+use Rattle.session.specs.Headline.{Ending, HasPrinted, HasTakenAll, IsFunction, IsReplayed, LeavesSnapshot, Stopped, Unsaved, course_of}
 use Rattle.session.specs.Moment.{Beginning, IsFirst, Moment, Run, Environment, Stage, standing, start_of, with_output}
 use Rattle.session.specs.Sections.{sections_of}
 use Rattle.session.specs.Report.{bytes_of}
@@ -140,28 +140,32 @@ ending_saved run numbers before now file open_still same p prints = record {
     text n = snapshot_text n now.stage
 
 -- not all of the snapshot was written
-pub unsaved : (why : Unwritten) (run : Run) (numbers : Numbers) (before now : Moment) (file : Output) → closes run.choices ≡ false → now.snapshot ≡ before.snapshot → HasPrinted run numbers before now →
+unsaved : (why : Unwritten) (run : Run) (numbers : Numbers) (before now : Moment) (file : Output) → closes run.choices ≡ false → now.snapshot ≡ before.snapshot → HasPrinted run numbers before now →
+    Prints (snapshot_text numbers now.stage) now.snapshot file (Err why) → Unsaved why run before (record now { snapshot = file })
+unsaved why run numbers before now file open_still same p prints = record {
+  saves = open_still;
+  numbers = numbers;
+  printed = record {
+    replayed = record { deliveries = p.replayed.deliveries; read = p.replayed.read; are = p.replayed.are; replay = p.replayed.replay };
+    function = p.function;
+    counted = p.counted;
+  };
+  cut_short = subst (λ o. IsCutShort why (snapshot_text numbers now.stage) o file) same prints.outcome;
+}
+
+-- and so the run stopped
+pub stopped_unsaved : (why : Unwritten) (run : Run) (numbers : Numbers) (before now : Moment) (file : Output) → closes run.choices ≡ false → now.snapshot ≡ before.snapshot → HasPrinted run numbers before now →
     Prints (snapshot_text numbers now.stage) now.snapshot file (Err why) → Stopped (stop_of_unwritten why) run before (record now { snapshot = file })
-unsaved why run numbers before now file open_still same p prints = by why cut
+stopped_unsaved why run numbers before now file open_still same p prints = by why (unsaved why run numbers before now file open_still same p prints)
   where
-    cut : IsCutShort why (snapshot_text numbers now.stage) before.snapshot file
-    cut = subst (λ o. IsCutShort why (snapshot_text numbers now.stage) o file) same prints.outcome
+    by : (w : Unwritten) → Unsaved w run before (record now { snapshot = file }) → Stopped (stop_of_unwritten w) run before (record now { snapshot = file })
+    by NotWritten part = inr ((part.cut_short.failed refl).1, part)
+    by Refused part = inr part
 
-    stands : (w : Unwritten) → IsCutShort w (snapshot_text numbers now.stage) before.snapshot file → Unsaved w run before (record now { snapshot = file })
-    stands w short = record {
-      saves = open_still;
-      numbers = numbers;
-      printed = record {
-        replayed = record { deliveries = p.replayed.deliveries; read = p.replayed.read; are = p.replayed.are; replay = p.replayed.replay };
-        function = p.function;
-        counted = p.counted;
-      };
-      cut_short = short;
-    }
-
-    by : (w : Unwritten) → IsCutShort w (snapshot_text numbers now.stage) before.snapshot file → Stopped (stop_of_unwritten w) run before (record now { snapshot = file })
-    by NotWritten short = inr ((short.failed refl).1, stands NotWritten short)
-    by Refused short = inr (stands Refused short)
+-- while it wrote the snapshot
+pub leaves_part : (why : Unwritten) (run : Run) (numbers : Numbers) (before now : Moment) (file : Output) → closes run.choices ≡ false → now.snapshot ≡ before.snapshot → HasPrinted run numbers before now →
+    Prints (snapshot_text numbers now.stage) now.snapshot file (Err why) → LeavesSnapshot (stop_of_unwritten why) run before (record now { snapshot = file })
+leaves_part why run numbers before now file open_still same p prints = inr (why, refl, unsaved why run numbers before now file open_still same p prints)
 
 -- a run that stopped while it wrote may have left a part
 pub may_leave : (why : Unwritten) → MayLeavePart (stop_of_unwritten why)

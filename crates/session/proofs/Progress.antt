@@ -182,6 +182,7 @@ starved_at_once run before stands =
     let stops : StopsWithin (NotApplied Starved) run before before = record {
       deliveries = [];
       last = None;
+      kind = tt;
       within = rest_within run.environment [] (start_of run before) before.stage (reported_before run.environment.report run.numbered) (nothing_taken_from run.environment run.numbered before.stage stands);
       mapped = stands.by_one;
       first = nothing_first (max_bytes_of run.choices) before.input.left;
@@ -212,6 +213,7 @@ module _ (run : Run) (before now : Moment) (reader : Reading) (reported matched 
   stands next input last last_next reads = record {
     deliveries = so_far.deliveries;
     last = None;
+    kind = tt;
     within = rest_within run.environment so_far.deliveries (start_of run before) now.stage reported so_far.at_rest;
     mapped = so_far.at_rest.mapped;
     first = first_still next input.left last last_next reads;
@@ -299,7 +301,7 @@ module _ (run : Run) (before now : Moment) (reader : Reading) (reported matched 
           let mapped = in_part.mapped (version_at so_far.deliveries (start_of run before)) so_far.at_rest.mapped in
           ⊎_elim
           (untaken halt mapped)
-          (λ begun. record { deliveries = so_far.deliveries; last = Some d; within = begun; mapped = mapped; first = first.first; alone = λ _ _. first.alone })
+          (λ begun. record { deliveries = so_far.deliveries; last = Some d; kind = in_part.kind; within = begun; mapped = mapped; first = first.first; alone = λ _ _. first.alone })
           (in_part.world so_far.deliveries (start_of run before) so_far.at_rest)
         where
           Within : Stage → Type 0
@@ -317,6 +319,7 @@ module _ (run : Run) (before now : Moment) (reader : Reading) (reported matched 
           untaken (NotApplied Starved) mapped same = record {
             deliveries = so_far.deliveries;
             last = None;
+            kind = tt;
             within = still same.0 same.1 same.2;
             mapped = mapped;
             first = first_still next after.input.left now.last_read after.last_read is.reads;

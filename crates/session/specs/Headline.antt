@@ -45,7 +45,7 @@ use Rattle.session.specs.Remapping.{IsFullOfStale, mapped_by, remapped_some}
 use Rattle.session.specs.Report.{bytes_of}
 use Rattle.session.specs.Saving.{HasSaved, numbers_of, snapshot_text}
 use Rattle.session.specs.Sections.{sections_of}
-use Rattle.session.specs.Stop.{stop_of}
+use Rattle.session.specs.Stop.{stop_of, stop_of_unwritten}
 use Rattle.session.specs.Stops.{IsHalted}
 use Rattle.session.specs.Taking.{HoldsDocuments, IsFull, judgement, replies_there}
 
@@ -263,7 +263,14 @@ Stopped OutOfMemory run before now =
     ⊎ Unsaved Refused run before now
 Stopped (BadSnapshot number) run before now = ⊥
 
--- what a replay that was begun leaves: it ended with Ok or stopped for a cause; and what it took of its input is bounded
+-- a run that stopped left the snapshot that it writes as it was, or stopped while it wrote it
+abbrev pub LeavesSnapshot : Stop → Run → Moment → Moment → Type 0
+LeavesSnapshot stop run before now = (now.snapshot ≡ before.snapshot) ⊎ ((why : Unwritten) × (stop ≡ stop_of_unwritten why) × Unsaved why run before now)
+
+-- what a replay that was begun leaves: it ended with Ok or stopped for a cause; what it took of its input is bounded; it wrote nothing into
+-- the snapshot before all else was written, and read nothing of the one that it goes on from
 pub record ReplayEnding (status : Status) (run : Run) (before now : Moment) : Type 0 where
   pub outcome : MatchOption (stop_of status) (Ending run before now) (λ stop. Stopped stop run before now)
   pub taken : IfSome before.input.left (λ bytes. TakesByNeed (max_bytes_of run.choices) bytes now.input.left before.last_read now.last_read)
+  pub snapshot : IfSome (stop_of status) (λ stop. LeavesSnapshot stop run before now)
+  pub resumed : now.resumed ≡ before.resumed

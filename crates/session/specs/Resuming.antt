@@ -52,7 +52,7 @@ pub record IsNotResumed (status : Status) (run : Run) (before now : Moment) : Ty
 abbrev pub with_loaded : Moment → Input → WorldState → Moment
 with_loaded before rest world = record before { stage = stage_in before.stage.output before.stage.counts world; resumed = rest }
 
--- the whole snapshot was read, and the run went on from its world, behind the runs that left its counts
+-- the whole snapshot was read, and the run went on from its world, behind the runs that left its counts, and read no more of the snapshot
 pub record IsResumed (status : Status) (run : Run) (before now : Moment) : Type 0 where
   pub world : WorldState
   pub numbers : Numbers

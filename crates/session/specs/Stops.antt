@@ -11,7 +11,7 @@ use Rattle.session.specs.Course.{course_begun, course_to_end, led_to, version_at
 use Rattle.session.specs.Moment.{Moment, Run, start_of}
 use Rattle.session.specs.Reading.{AreDeliveries, AreFirst}
 use Rattle.session.specs.Remapping.{mapped_by}
-use Rattle.session.specs.Taking.{AtRest, IsWithin, entered_perhaps}
+use Rattle.session.specs.Taking.{AtRest, IsEventOrMark, IsWithin, entered_perhaps}
 use Rattle.words.specs.Options.{max_bytes_of}
 
 -- the whole input was read, and all lines were taken; so many asks were answered or records written, and so many matches were delivered,
@@ -23,11 +23,12 @@ pub record HasTaken (run : Run) (reported matched : ℕ) (before now : Moment) :
   pub at_rest : AtRest run.environment deliveries reported (start_of run before) now.stage
   pub matched_are : matched ≡ run.numbered.matches + matches deliveries
 
--- at a line: the world of the first lines of what was taken, of which the last is perhaps a watermark with some of the events that
--- it makes due, behind which no byte was judged; every page is mapped by the version in force
+-- at a line: the world of the first lines of what was taken, of which the last is perhaps an event, or a watermark with some of the events
+-- that it makes due, behind which no byte was judged; every page is mapped by the version in force
 pub record StopsWithin (halt : Halt) (run : Run) (before now : Moment) : Type 0 where
   pub deliveries : List Delivery
   pub last : Option Delivery
+  pub kind : IfSome last IsEventOrMark
   pub within : IsWithin halt run.environment (course_begun run.environment.routes deliveries last (start_of run before)) (λ replies. entered_perhaps (led_to deliveries (start_of run before) replies) last) (start_of run before) now.stage
   pub mapped : now.stage.mapped ≡ mapped_by (version_at deliveries (start_of run before)) now.stage.world.played.records
   pub first : AreFirst (max_bytes_of run.choices) before.input.left now.input.left (deliveries ++ option_to_list last)

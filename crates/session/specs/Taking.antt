@@ -7,7 +7,7 @@ use Rattle.entity_model.specs.declared.event.Event.{Event}
 use Rattle.entity_model.specs.Event.{event_cmp}
 use Rattle.rising.specs.Rising.{IsRising, has}
 use Rattle.delivery.specs.declared.Delivery.{Delivery}
-use Rattle.delivery.specs.declared.Delivery.TheVariants.{Mapping}
+use Rattle.delivery.specs.declared.Delivery.TheVariants.{Event as Told, Watermark, Ask, Mapping, Match}
 use Rattle.entity_model.specs.declared.mapping.MappingVersion.{MappingVersion}
 use Rattle.reorder_buffer.specs.Buffered.{first_due}
 use Rattle.replay_model.specs.Records.{Bytes, Records, record_of}
@@ -183,9 +183,18 @@ IsUntaken (Unapplied Full) before now = ⊥
 IsUntaken (Unapplied OutOfMemory) before now = (now.world ≡ before.world) × (now.counts ≡ before.counts) × (now.output ≡ before.output)
 IsUntaken (Unprinted why) before now = ⊥
 
+-- an event or a watermark
+abbrev pub IsEventOrMark : Delivery → Type 0
+IsEventOrMark (Told event) = ⊤
+IsEventOrMark (Watermark mark) = ⊤
+IsEventOrMark (Ask pattern) = ⊥
+IsEventOrMark (Mapping version) = ⊥
+IsEventOrMark (Match query) = ⊥
+
 -- an event or a watermark wasn't taken wholly: a world that was at rest is as it was, with counts and output, or has taken it, with some
 -- of what it makes due; every page is mapped by the version by which it was, if all were by one
 pub record TakesInPart (halt : Halt) (environment : Environment) (t : Turn) (before now : Stage) : Type 0 where
+  pub kind : IsEventOrMark t.delivery
   pub held_up : IsHeldUp halt environment before.output now
   pub mapped : KeepsVersion before.mapped now.mapped before.world.played.records now.world.played.records
   pub world : (ds : List Delivery) (start : Beginning) → AtRest environment ds t.reported start before →

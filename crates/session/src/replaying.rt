@@ -10,7 +10,7 @@ ghost use Rattle.text_output.specs.Printing.{Prints, output};
 ghost use Rattle.transcript.specs.Sections.{chosen};
 ghost use Rattle.world.specs.Meaning.{meaning};
 ghost use Rattle.session.specs.{Answering.closing_held, Counts.HaveGoneOn};
-ghost use Rattle.session.specs.Headline.{Ending, HasPrinted, HasTakenAll, Stopped};
+ghost use Rattle.session.specs.Headline.{Ending, HasPrinted, HasTakenAll, LeavesSnapshot, Stopped};
 ghost use Rattle.session.specs.{Moment.behind, Moment.moment, Moment.run_of, Moment.world_at_start, Reading.TakesByNeed};
 ghost use Rattle.session.specs.{Remapping.HoldsWithin, Remapping.mapped_in, Sections.sections_of, Stop.MayLeavePart, Taking.IsStanding};
 ghost use Rattle.words.specs.Options.{closes, max_bytes_of, max_terms_of};
@@ -56,6 +56,10 @@ pub fn replay_into<S: Source, R: Revisions, K: Sink, F: Sink>(
     ensures limit { world.new.limit ≡ max_terms_of task.now.options.now }
     ensures held { HoldsWithin (max_terms_of task.now.options.now) world.new }
     ensures unsaved { ((closes task.now.options.now ≡ false) × IfErr result MayLeavePart) ⊎ (ports.new.snapshot ≡ ports.old.snapshot) }
+    ensures snapshot { IfErr result (λ stop. LeavesSnapshot stop (behind task.now.numbers (run_of (routes_of graphs.old) task.now.report (R.contents ports.old.revisions) task.now.options.now))
+        (moment S.Source R.Revisions K.Sink F.Sink ports.old (world_at_start task.now.options.now))
+        (moment S.Source R.Revisions K.Sink F.Sink ports.new world.new)) }
+    ensures resumed { ports.new.resumed ≡ ports.old.resumed }
     ensures further { HaveGoneOn S.Source R.Revisions K.Sink F.Sink ports.old ports.new }
 {
     begin(task.options, world);
@@ -107,6 +111,10 @@ pub fn replay_within<S: Source, R: Revisions, K: Sink, F: Sink>(
     ensures limit { world.new.limit ≡ max_terms_of task.now.options.now }
     ensures held { HoldsWithin (max_terms_of task.now.options.now) world.new }
     ensures unsaved { ((closes task.now.options.now ≡ false) × IfErr result MayLeavePart) ⊎ (ports.new.snapshot ≡ ports.old.snapshot) }
+    ensures snapshot { IfErr result (λ stop. LeavesSnapshot stop (behind task.now.numbers (run_of (routes_of graphs.old) task.now.report (R.contents ports.old.revisions) task.now.options.now))
+        (moment S.Source R.Revisions K.Sink F.Sink ports.old world.old)
+        (moment S.Source R.Revisions K.Sink F.Sink ports.new world.new)) }
+    ensures resumed { ports.new.resumed ≡ ports.old.resumed }
     ensures further { HaveGoneOn S.Source R.Revisions K.Sink F.Sink ports.old ports.new }
 {
     let numbers = take_and_print(task, ports, world, graphs)?;
@@ -138,6 +146,7 @@ fn take_and_print<S: Source, R: Revisions, K: Sink, F: Sink>(
     ensures limit { world.new.limit ≡ world.old.limit }
     ensures held { HoldsWithin world.old.limit world.new }
     ensures snapshot { ports.new.snapshot ≡ ports.old.snapshot }
+    ensures resumed { ports.new.resumed ≡ ports.old.resumed }
     ensures further { HaveGoneOn S.Source R.Revisions K.Sink F.Sink ports.old ports.new }
 {
     let numbers = take_all(task, ports, world, graphs)?;
@@ -203,6 +212,7 @@ fn take_all<S: Source, R: Revisions, K: Sink, F: Sink>(
     ensures limit { world.new.limit ≡ world.old.limit }
     ensures held { HoldsWithin world.old.limit world.new }
     ensures snapshot { ports.new.snapshot ≡ ports.old.snapshot }
+    ensures resumed { ports.new.resumed ≡ ports.old.resumed }
     ensures further { HaveGoneOn S.Source R.Revisions K.Sink F.Sink ports.old ports.new }
 {
     let taken = take_lines(task, ports, world, graphs)?;

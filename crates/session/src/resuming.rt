@@ -4,7 +4,7 @@ ghost use Rattle.std.specs.Prelude.{◌≡◌, ◌≢◌, ◌⊎◌, ◌↔◌, 
 ghost use Rattle.std.specs.FinMap as map;
 ghost use Rattle.checkpoint.specs.{Causes.HasCause, Saved.AreWithin};
 ghost use Rattle.checkpoint.specs.declared.fault.LoadFault.TheVariants.{BadLine, OutOfMemory as NoMemory};
-ghost use Rattle.replay_model.specs.ReplayState.{nothing_delivered};
+ghost use Rattle.replay_model.specs.ReplayState.{nothing_delivered, nothing_delivered_within};
 ghost use Rattle.splitting.specs.{Filling.IsReadyFor, Graphs.GraphsState, Graphs.MayFollow, Graphs.routes_of};
 ghost use Rattle.words.specs.Options.{closes, max_terms_of};
 ghost use Rattle.wq_io.specs.Streams.{IsAtEnd};
@@ -65,6 +65,7 @@ pub fn refuse(options: &ReplayOptions<'_>, world: &mut World)
     requires { world.old.replay ≡ nothing_delivered }
     ensures begun { options.now.resume ≡ None → world.new ≡ world_at_start options.now }
     ensures resumed { IsSome options.now.resume → world.new ≡ record world.old { limit = max_terms_of options.now } }
+    ensures unplayed { world.new.replay ≡ nothing_delivered_within world.new.replay.buffer.horizon }
     ensures limit { world.new.limit ≡ max_terms_of options.now }
     ensures held { HoldsWithin (max_terms_of options.now) world.new }
 {

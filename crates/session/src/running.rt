@@ -1,7 +1,7 @@
 // The top call.
 
 ghost use Rattle.std.specs.Prelude.{◌≡◌, ◌⊎◌, ℕ, List, None, Some, IsSome, map, string_bytes};
-ghost use Rattle.replay_model.specs.ReplayState.{nothing_delivered};
+ghost use Rattle.replay_model.specs.ReplayState.{nothing_delivered, nothing_delivered_within};
 ghost use Rattle.drill_replay.specs.Playing.{IsByFirst};
 ghost use Rattle.session.specs.{declared.report.Report.TheVariants.Answers, declared.report.Report.TheVariants.Changes, Counts.HaveGoneOn};
 ghost use Rattle.session.specs.{Drilling.DrillEnding, Records.FollowEnding, Headline.ReplayEnding};
@@ -46,8 +46,9 @@ use wq_io::{Sink, Source};
 ///
 /// `follow` reads records of changes, and prints how many it applied and, if asked, the triples then.
 ///
-/// `words` are the arguments; `keys` key the hashes of terms; `world` has taken nothing yet and has no horizon. A run begins with the first
-/// version of the mapping, whichever is in force in `world`, or with the world of a snapshot.
+/// `words` are the arguments; `keys` key the hashes of terms; `world` has taken nothing yet and has no horizon. A replay or a drill begins
+/// with the first version of the mapping, whichever is in force in `world`, or with the world of a snapshot. A follower leaves the version
+/// as it is.
 pub fn run<S: Source, R: Revisions, K: Sink, F: Sink>(
     alloc: Global,
     keys: RandomState,
@@ -57,13 +58,14 @@ pub fn run<S: Source, R: Revisions, K: Sink, F: Sink>(
 ) -> Status
     requires world { world.old.replay ≡ nothing_delivered }
 
-    // If the arguments aren't understood, or the text of the routes isn't, the run reads and writes nothing. The routes are read after memory
-    // is asked for, so the status may be OutOfMemory instead.
+    // If the arguments aren't understood, or the text of the routes isn't, the run reads, writes and delivers nothing. The routes are read
+    // after memory is asked for, so the status may be OutOfMemory instead.
     ensures bad_words { result ≡ Status.BadWords → IsNotUnderstood (map (λ w. string_bytes w) words.now) }
     ensures words { plan_of (map (λ w. string_bytes w) words.now) ≡ None → result ≡ Status.BadWords }
     ensures routes { IsNotUnderstood (map (λ w. string_bytes w) words.now) → (result ≡ Status.BadWords) ⊎ (result ≡ Status.OutOfMemory) }
     ensures untouched { result ≡ Status.BadWords → (ports.new ≡ ports.old) × (world.new ≡ world.old) }
     ensures unread { IsNotUnderstood (map (λ w. string_bytes w) words.now) → ports.new ≡ ports.old }
+    ensures unplayed { IsNotUnderstood (map (λ w. string_bytes w) words.now) → world.new.replay ≡ nothing_delivered_within world.new.replay.buffer.horizon }
 
     // A replay without `--resume` ends with Ok or stops for a cause. It begins with the horizon and the limit of its options, and with
     // version One of the mapping.
@@ -121,6 +123,7 @@ pub fn run<S: Source, R: Revisions, K: Sink, F: Sink>(
         (result ≡ Status.BadWords) ⊎ ((world.new.limit ≡ limit_of_plan plan) × HoldsWithin (limit_of_plan plan) world.new) }
 
     // Nothing is written into the snapshot without `--save`, nor by a run that stops for another cause than a failed write or refused memory.
+    // What a replay writes into it comes last (`snapshot` of `ReplayEnding`).
     ensures unsaved { (plan : ThePlan) → plan_of (map (λ w. string_bytes w) words.now) ≡ Some plan →
         MaySave plan result ⊎ (ports.new.snapshot ≡ ports.old.snapshot) }
 

@@ -1,7 +1,7 @@
 // A split: a replay into several graphs.
 
 ghost use Rattle.std.specs.Prelude.{◌≡◌, ◌⊎◌, false, List, None, Some, IfSome, IsSome};
-ghost use Rattle.replay_model.specs.ReplayState.{nothing_delivered};
+ghost use Rattle.replay_model.specs.ReplayState.{nothing_delivered, nothing_delivered_within};
 ghost use Rattle.graph_routes.specs.{declared.routes.Route.Route, Routes.AreRoutesIn};
 ghost use Rattle.session.specs.{declared.report.Report.TheVariants.Answers, Counts.HaveGoneOn, Headline.ReplayEnding};
 ghost use Rattle.session.specs.{Moment.moment, Moment.run_of, Moment.world_at_start, Remapping.HoldsWithin, Resuming.ResumeEnding};
@@ -40,6 +40,7 @@ pub fn split<S: Source, R: Revisions, K: Sink, F: Sink>(
         (moment S.Source R.Revisions K.Sink F.Sink ports.new world.new) }
     ensures none { ((routes : List Route) → AreRoutesIn options.now.route routes → ⊥) → (result ≡ Status.BadWords) ⊎ (result ≡ Status.OutOfMemory) }
     ensures unread { ((routes : List Route) → AreRoutesIn options.now.route routes → ⊥) → ports.new ≡ ports.old }
+    ensures unplayed { ((routes : List Route) → AreRoutesIn options.now.route routes → ⊥) → world.new.replay ≡ nothing_delivered_within world.new.replay.buffer.horizon }
     ensures limit { (result ≡ Status.BadWords) ⊎ ((world.new.limit ≡ max_terms_of options.now.replay) × HoldsWithin (max_terms_of options.now.replay) world.new) }
     ensures unsaved { ((closes options.now.replay ≡ false) × IfSome (stop_of result) MayLeavePart) ⊎ (ports.new.snapshot ≡ ports.old.snapshot) }
     ensures further { HaveGoneOn S.Source R.Revisions K.Sink F.Sink ports.old ports.new }

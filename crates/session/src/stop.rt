@@ -26,13 +26,13 @@ pub enum Halt {
 pub enum Stop {
     /// The line with this number, from 1, is refused.
     BadLine(u64, LineCause),
-    /// The input could not be read.
+    /// The input, or the snapshot to go on from, could not be read.
     ReadFault,
-    /// The output could not be written.
+    /// The output, or the snapshot, could not be written.
     WriteFault,
-    /// The input has more bytes than it may have.
+    /// The input, or the snapshot to go on from, has more bytes than it may have.
     TooLong,
-    /// There is no room for the terms of a page.
+    /// There is no room for the terms of a page, of a record, or of the snapshot to go on from.
     StoreFull,
     /// A request for memory was refused.
     OutOfMemory,

@@ -57,6 +57,7 @@ pub fn take_lines<S: Source, R: Revisions, K: Sink, F: Sink>(
     ensures follow { OnOk result (MayFollow graphs.new world.new) }
     ensures routes { routes_of graphs.new ≡ routes_of graphs.old }
     ensures snapshot { ports.new.snapshot ≡ ports.old.snapshot }
+    ensures resumed { ports.new.resumed ≡ ports.old.resumed }
     ensures further { HaveGoneOn S.Source R.Revisions K.Sink F.Sink ports.old ports.new }
 {
     let folder = task.options.folder();

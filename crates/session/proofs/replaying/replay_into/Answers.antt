@@ -24,3 +24,6 @@ returns-clause-ok g c = rw c.begin.ensures at c.replay_within.ensures.ok
 
 pub returns-clause-err : goal.returns-clause-err
 returns-clause-err g c = rw c.begin.ensures at c.replay_within.ensures.err
+
+pub returns-clause-snapshot : goal.returns-clause-snapshot
+returns-clause-snapshot g c = rw c.begin.ensures at c.replay_within.ensures.snapshot

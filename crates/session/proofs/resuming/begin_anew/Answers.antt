@@ -1,4 +1,5 @@
 -- Where memory for the graphs is refused, the world is that at the start.
+use Rattle.std.proofs.Common.{inl, refl}
 use Rattle.std.specs.FinMap.{len-empty}
 use Rattle.replay_model.specs.Play.{nothing_played}
 use Rattle.words.specs.Options.{max_bytes_of}
@@ -13,6 +14,8 @@ returns-in_default-clause-ending g c = rw c.begin.ensures (record {
   outcome = starved_at_once (run_of c.args.routes c.args.task.now.report (g.R.Revisions.contents c.args.ports.now.revisions) c.args.task.now.options.now)
       (moment g.S.Source g.R.Revisions g.K.Sink g.F.Sink c.args.ports.now (world_at_start c.args.task.now.options.now)) (nothing_stands c.args.task.now.options.now.horizon);
   taken = nothing_taken_of (max_bytes_of c.args.task.now.options.now) (g.S.Source.left c.args.ports.now.events) (g.S.Source.last c.args.ports.now.events);
+  snapshot = inl refl;
+  resumed = refl;
 })
 
 pub returns-in_default-clause-held : goal.returns-in_default-clause-held

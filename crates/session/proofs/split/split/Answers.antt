@@ -13,6 +13,8 @@ returns-in-Err-clause-begun g c = λ routes are none. rw (c.refuse.ensures.begun
   outcome = starved_at_once (run_of (Some routes) Answers (g.R.Revisions.contents c.args.ports.now.revisions) c.args.options.now.replay) (moment g.S.Source g.R.Revisions g.K.Sink g.F.Sink c.args.ports.now (world_at_start c.args.options.now.replay))
       (nothing_stands c.args.options.now.replay.horizon);
   taken = nothing_taken_of (max_bytes_of c.args.options.now.replay) (g.S.Source.left c.args.ports.now.events) (g.S.Source.last c.args.ports.now.events);
+  snapshot = inl refl;
+  resumed = refl;
 })
 
 pub returns-in-Err-clause-resumed : goal.returns-in-Err-clause-resumed

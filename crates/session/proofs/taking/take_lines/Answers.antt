@@ -19,6 +19,7 @@ loop-line-init g c =
       refl,
       c.requires.follow,
       refl,
+      refl,
     )
 
 pub returns-in_err-number-clause-err : goal.returns-in_err-number-clause-err
@@ -67,6 +68,7 @@ loop-line-preserved g c =
       c.deliver-delivered.ensures.routes ∙ c.loop-line.invariant.4,
       c.in_ok-done.ensures.follow,
       c.loop-line.invariant.6,
+      c.loop-line.invariant.7,
     )
 
 pub deliver-delivered-requires-clause-number : goal.deliver-delivered-requires-clause-number

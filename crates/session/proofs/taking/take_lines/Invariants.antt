@@ -18,6 +18,7 @@ invariant-loop-line g l =
     × (routes_of l.graphs ≡ routes_of l.fn.graphs)
     × MayFollow l.graphs l.world
     × (l.ports.snapshot ≡ l.fn.ports.snapshot)
+    × (l.ports.resumed ≡ l.fn.ports.resumed)
 
 abbrev pub decreases-loop-line : goal.decreases-loop-line
 decreases-loop-line g l = l.lines.max_bytes - l.lines.given

@@ -1,5 +1,8 @@
--- The answers of graphs that follow the world are those of what is routed to them.
+-- The answers of graphs that follow the world are those of what is routed to them; without graphs the answer is the world's.
 use Rattle.session.proofs.context.Context.print.Goals as goal
 
 pub returns-in-Some : goal.returns-in-Some
 returns-in-Some g c = rw c.in-Some.is (c.print_answers.ensures c.args.world.now (rw c.in-Some.is at c.requires.follow))
+
+pub returns-in-None : goal.returns-in-None
+returns-in-None g c = rw c.in-None.is c.print_answer.ensures
