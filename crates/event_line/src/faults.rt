@@ -35,7 +35,7 @@ pub enum LineCause {
     Match,
     /// A record of changes has to begin here, and the line is no first line of one. It is no cause of an event file, nor are those below.
     Head,
-    /// A triple of a record has to stand here, and the line isn't the canonical text of one.
+    /// A triple of a record has to stand here, and the line isn't the canonical text of one with fit and short terms.
     Triple,
     /// The triple isn't greater than the one before it in its part of the record, or stands in both parts.
     Order,

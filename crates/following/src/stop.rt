@@ -15,7 +15,7 @@ pub enum RecordCause {
     LineLong,
     /// A record has to begin here, and the line is no first line of one.
     Head,
-    /// A triple has to stand here, and the line isn't the canonical text of one.
+    /// A triple has to stand here, and the line isn't the canonical text of one with fit and short terms.
     Triple,
     /// The triple isn't greater than the one before it in its part, or stands in both parts.
     Order,

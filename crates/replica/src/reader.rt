@@ -21,7 +21,7 @@ pub enum PatchFault {
     /// A record has to begin here, and the line is no first line of one.
     #[error("no head of a record")]
     Head,
-    /// A triple has to stand here, and the line isn't the canonical text of one.
+    /// A triple has to stand here, and the line isn't the canonical text of one with fit and short terms.
     #[error("no triple in canonical form")]
     Triple,
     /// The triple isn't greater than the one before it in its part, or stands in both parts.

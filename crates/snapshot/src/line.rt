@@ -16,7 +16,7 @@ pub struct Head {
     pub mapping: MappingVersion,
     /// How many asks were answered, so that the next one has the number after it.
     pub asks: u64,
-    /// How many matches were answered, which are counted by themselves.
+    /// How many matches were delivered to `replay` or `split`. They have numbers of their own.
     pub matches: u64,
     /// The number of the last patch record, 0 where there was none.
     pub patches: u64,
