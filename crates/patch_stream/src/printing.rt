@@ -1,6 +1,6 @@
 // The record of a step is printed.
 
-ghost use Rattle.std.specs.Prelude.{◌≡◌, ◌≤◌, ◌<◌, ◌+◌, List, ◌++◌, ◌∷◌, ◌==◌, ◌||◌, nat_lt, [], length, position, string_bytes, IfOk, MatchOption};
+ghost use Rattle.std.specs.Prelude.{◌≡◌, ◌≤◌, ◌<◌, ◌+◌, ◌^◌, List, ◌++◌, ◌∷◌, ◌==◌, ◌||◌, nat_lt, [], length, position, string_bytes, IfOk, MatchOption};
 ghost use Rattle.rdf_term.specs.declared.triple.Triple.{Triple};
 ghost use Rattle.replica.specs.Head.{head_line};
 ghost use Rattle.text_output.specs.Printing.{Prints, output};
@@ -30,6 +30,7 @@ pub fn print_step<K: Sink>(
     out: &mut K,
 ) -> Result<u64, Unwritten>
     ensures tells { (before after : List Triple) → Tells TheChange before after change → TellsStep told (step before after) (output K.Sink out.old) (output K.Sink out.new) result }
+    ensures last { 2 ^ 64 ≤ told + 1 → output K.Sink out.new ≡ output K.Sink out.old }
     ensures later { K.faults out.old ≤ K.faults out.new }
     ensures most { K.most_faults out.new ≡ K.most_faults out.old }
 {

@@ -1,5 +1,5 @@
 -- Graphs that follow a world.
-use Rattle.std.specs.Prelude.{◌≡◌, ℕ, ◌<◌, ◌≤◌, ◌+◌, ⊤, List, Option, None, Some, length, IfSome, option_map}
+use Rattle.std.specs.Prelude.{◌≡◌, ℕ, ◌<◌, ◌≤◌, ◌+◌, ⊤, Bool, true, false, List, Option, None, Some, Result, Err, length, IfSome, IsSome, MatchOption, option_map}
 use Rattle.std.specs.FinMap as map
 use Rattle.std.specs.List.{AllByRecursion}
 use Rattle.rising.specs.Rising.{sorted}
@@ -18,6 +18,9 @@ use Rattle.world.specs.declared.applied.RoutedPage.{RoutedPage}
 use Rattle.world.specs.Meaning.{meaning}
 use Rattle.world.specs.Routed.{route_of_page}
 use Rattle.world.specs.WorldState.{AreHolders, WorldState}
+use Rattle.text_output.specs.declared.write.Unwritten.{Unwritten}
+use Rattle.text_output.specs.declared.write.Unwritten.TheVariants.{OutOfMemory}
+use Rattle.text_output.specs.Printing.{Output}
 
 -- graphs: the routes; how many distinct terms each graph may have; and the entry of each entity, which is the index of its graph and its
 -- triples, or none where the graphs are lost
@@ -40,6 +43,10 @@ pub record AreEntriesOf (routes : List Route) (limit : ℕ) (world : WorldState)
 -- graphs follow a world, or are lost
 abbrev pub Follow : GraphsState → WorldState → Type 0
 Follow graphs world = IfSome graphs.entries (AreEntriesOf graphs.routes graphs.limit world)
+
+-- if graphs are lost, memory is refused, and nothing is written of them
+abbrev pub PrintNothingIfLost : GraphsState → Output → Output → Result (Unit {0}) Unwritten → Type 0
+PrintNothingIfLost graphs old new result = MatchOption graphs.entries ((result ≡ Err OutOfMemory) × (new ≡ old)) (λ _. ⊤)
 
 -- ---- graphs that there may be
 
@@ -77,6 +84,24 @@ AreEntriesAfter (Sided cause) x page entries now = now ≡ entries
 abbrev pub AreEntriesAnew : Option ℕ → EntityId → List Triple → Entries → Entries → Type 0
 AreEntriesAnew None x triples entries now = now ≡ entries
 AreEntriesAnew (Some graph) x triples entries now = now ≡ map.insert entries x (entry graph (sorted triple_cmp triples))
+
+-- whether it takes memory to follow an application: only where a page was stored
+abbrev pub takes_memory : Outcome → Option RoutedPage → Bool
+takes_memory Stored None = false
+takes_memory Stored (Some page) = true
+takes_memory Same page = false
+takes_memory Dropped page = false
+takes_memory (Sided cause) page = false
+
+-- graphs that weren't lost aren't lost now
+abbrev pub AreKept : GraphsState → GraphsState → Type 0
+AreKept old new = IsSome old.entries → IsSome new.entries
+
+-- the same of graphs that there may be
+abbrev pub MayBeKept : Option GraphsState → Option GraphsState → Type 0
+MayBeKept (Some old) (Some new) = AreKept old new
+MayBeKept None new = new ≡ None
+MayBeKept (Some old) None = ⊥
 
 -- ---- room
 

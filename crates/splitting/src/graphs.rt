@@ -1,6 +1,6 @@
 // The graphs, which follow a world step by step.
 
-ghost use Rattle.std.specs.Prelude.{◌≡◌, ◌<◌, ◌≤◌, ℕ, List, Option, Some, IfOk, OnOk};
+ghost use Rattle.std.specs.Prelude.{◌≡◌, ◌<◌, ◌≤◌, ℕ, List, Option, Some, false, IfOk, IsOk, OnOk};
 ghost use Rattle.std.specs.FinMap as map;
 ghost use Rattle.std.specs.List.{AllByRecursion};
 ghost use Rattle.rdf_term.specs.{Fit.HasFitAndShortTerms, Order.triple_cmp};
@@ -10,7 +10,7 @@ ghost use Rattle.rising.specs.Rising.{sorted};
 ghost use Rattle.subgraph.specs.{Entries.graph_triples, Entries.terms_with, Split.entry, Split.graph_of};
 ghost use Rattle.world.specs.{Applying.Applies, Routed.AreTriplesOf, Routed.GivesPage};
 ghost use Rattle.world.specs.WorldState.{AreHolders, WorldState, by_two_after, next_stale, remapped};
-ghost use Rattle.splitting.specs.Graphs.{AreEntriesAfter, AreEntriesAnew, Follow, HasRoomAnewIn, HasRoomIn, HaveRoom, HaveRoomAnew, IsSound, IsSoundFor};
+ghost use Rattle.splitting.specs.Graphs.{AreEntriesAfter, AreEntriesAnew, AreKept, Follow, HasRoomAnewIn, HasRoomIn, HaveRoom, HaveRoomAnew, IsSound, IsSoundFor, takes_memory};
 
 use entity_model::EntityId;
 use graph_routes::Routes;
@@ -74,12 +74,13 @@ impl Graphs {
 
     /// Follows the application of an event, whose page is given back where it stored one: the entity has its triples in the graph that this
     /// page is routed to, and in no other, and in none where the page was deleted. This graph has room for it. Graphs that followed the world
-    /// before the application follow the world after it, or are lost, where memory was refused.
+    /// before the application follow the world after it, or are lost, where memory was refused. Only a stored page takes memory.
     pub fn follow_application(&mut self, applied: &Applied, routed: Option<RoutedPage>)
         requires sound { IsSound self.old.routes applied.now.outcome routed }
         requires room { HaveRoom self.old applied.now.outcome routed }
         ensures routes { self.new.routes ≡ self.old.routes }
         ensures limit { self.new.limit ≡ self.old.limit }
+        ensures kept { takes_memory applied.now.outcome routed ≡ false → AreKept self.old self.new }
         ensures follow { (known : Option Contents) (folder : List ℕ) (before after : WorldState) →
             Applies known folder before.replay after.replay applied.now → after.limit ≡ before.limit →
             after.by_two ≡ by_two_after applied.now.outcome before.mapping applied.now.event.entity before.by_two → AreHolders after.by_two after.replay.played.records →
@@ -124,6 +125,7 @@ fn apply(
     requires sound { IsSoundFor split.old.graphs applied.now.outcome routed }
     requires room { HasRoomIn split.old.limit split.old.entries applied.now.outcome routed }
     ensures limit { split.new.limit ≡ split.old.limit }
+    ensures free { takes_memory applied.now.outcome routed ≡ false → IsOk result }
     ensures entries { OnOk result (AreEntriesAfter applied.now.outcome applied.now.event.entity routed split.old.entries split.new.entries) }
     ensures graphs { split.new.graphs ≡ split.old.graphs }
 {

@@ -1,13 +1,13 @@
 // Graphs, if there are any: only a split has them.
 
-ghost use Rattle.std.specs.Prelude.{◌≡◌, ℕ, List, Option, Some, IfSome, option_copied};
+ghost use Rattle.std.specs.Prelude.{◌≡◌, ℕ, List, Option, Some, false, IfSome, option_copied};
 ghost use Rattle.std.specs.List.{AllByRecursion};
 ghost use Rattle.rdf_term.specs.Fit.{HasFitAndShortTerms};
 ghost use Rattle.replay_model.specs.Records.{record_of};
 ghost use Rattle.revisions.specs.Revisions.{Contents};
 ghost use Rattle.world.specs.{Applying.Applies, Routed.AreTriplesOf, Routed.GivesPage};
 ghost use Rattle.world.specs.WorldState.{AreHolders, WorldState, by_two_after, next_stale, remapped};
-ghost use Rattle.splitting.specs.Graphs.{IsSound, MayFollow, MayHaveRoom, MayHaveRoomAnew, routes_of};
+ghost use Rattle.splitting.specs.Graphs.{IsSound, MayBeKept, MayFollow, MayHaveRoom, MayHaveRoomAnew, routes_of, takes_memory};
 
 use crate::graphs::Graphs;
 use entity_model::EntityId;
@@ -34,6 +34,7 @@ pub fn follow_application(
     requires sound { IfSome (routes_of graphs.old) (λ routes. IsSound routes applied.now.outcome routed) }
     requires room { MayHaveRoom graphs.old applied.now.outcome routed }
     ensures routes { routes_of graphs.new ≡ routes_of graphs.old }
+    ensures kept { takes_memory applied.now.outcome routed ≡ false → MayBeKept graphs.old graphs.new }
     ensures follow { (known : Option Contents) (folder : List ℕ) (before after : WorldState) →
         Applies known folder before.replay after.replay applied.now → after.limit ≡ before.limit →
         after.by_two ≡ by_two_after applied.now.outcome before.mapping applied.now.event.entity before.by_two → AreHolders after.by_two after.replay.played.records →

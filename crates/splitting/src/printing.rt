@@ -5,7 +5,7 @@ ghost use Rattle.replay_model.specs.Versions.{meaning_by};
 ghost use Rattle.subgraph.specs.Laws.{routed_union};
 ghost use Rattle.text_output.specs.Printing.{Prints, output};
 ghost use Rattle.world.specs.{Meaning.meaning, WorldState.WorldState};
-ghost use Rattle.splitting.specs.Graphs.{Follow, routing_by};
+ghost use Rattle.splitting.specs.Graphs.{Follow, PrintNothingIfLost, routing_by};
 ghost use Rattle.splitting.specs.Sections.{graph_answer, graph_answers, graph_section, graph_sections};
 
 use crate::graphs::Graphs;
@@ -31,9 +31,10 @@ impl Graphs {
         pattern: &Pattern,
         out: &mut K,
     ) -> Result<(), Unwritten>
-        ensures { (world : WorldState) → Follow self.now world → Prints
+        ensures prints { (world : WorldState) → Follow self.now world → Prints
             (graph_answers self.now.routes number (λ graph. rows (routed_union (routing_by self.now.routes) (meaning_by meaning world.by_two) world.replay.played.records graph) pattern.now))
             (output K.Sink out.old) (output K.Sink out.new) result }
+        ensures lost { PrintNothingIfLost self.now (output K.Sink out.old) (output K.Sink out.new) result }
     {
         let Some(split) = &self.split else {
             return Err(Unwritten::OutOfMemory);
@@ -51,9 +52,10 @@ impl Graphs {
     /// The output could not be written, or memory was refused: then a prefix of that was written, and nothing else. If the graphs are
     /// lost, the answer is OutOfMemory, and nothing is written.
     pub fn print<K: Sink>(&self, alloc: Global, out: &mut K) -> Result<(), Unwritten>
-        ensures { (world : WorldState) → Follow self.now world → Prints
+        ensures prints { (world : WorldState) → Follow self.now world → Prints
             (graph_sections self.now.routes (λ graph. routed_union (routing_by self.now.routes) (meaning_by meaning world.by_two) world.replay.played.records graph))
             (output K.Sink out.old) (output K.Sink out.new) result }
+        ensures lost { PrintNothingIfLost self.now (output K.Sink out.old) (output K.Sink out.new) result }
     {
         let Some(split) = &self.split else {
             return Err(Unwritten::OutOfMemory);

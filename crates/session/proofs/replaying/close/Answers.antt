@@ -8,7 +8,7 @@ use Rattle.session.specs.Answering.{closing_held}
 use Rattle.session.proofs.replaying.close.Goals as goal
 
 pub returns-in-Some : goal.returns-in-Some
-returns-in-Some g c = rw c.in-Some.is (c.print.ensures c.args.world.now (rw c.in-Some.is at c.requires))
+returns-in-Some g c = rw c.in-Some.is (c.print.ensures.prints c.args.world.now (rw c.in-Some.is at c.requires))
 
 pub returns-in-None : goal.returns-in-None
 returns-in-None g c = rw c.in-None.is

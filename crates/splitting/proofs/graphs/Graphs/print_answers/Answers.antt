@@ -11,16 +11,16 @@ use Rattle.splitting.proofs.graphs.Graphs.print_answers.Goals as goal
 pub loop-graph-init : goal.loop-graph-init
 loop-graph-init g c = prints_nothing _
 
-pub returns-in_err-rows : goal.returns-in_err-rows
-returns-in_err-rows g c =
+pub returns-in_err-rows-clause-prints : goal.returns-in_err-rows-clause-prints
+returns-in_err-rows-clause-prints g c =
     let p = err_from_is_err_and c.from_residual.result c.from_residual.ensures.1 in
     let few : c.loop-graph.graph ≤ suc (length c.self.inside.routes) = omega (arith, c.graphs-graph-end.ensures.count, c.loop-graph-test.true) in
     rw (← c.self.view_is, c.in-Some.is, p.1, p.2) (λ world follows.
     answers_printed c.self.inside.routes c.in-Some.split.entries c.self.inside.limit world follows c.args.number c.args.pattern.now _ _ _
     (below_not_begun (answer_in c.self.inside.routes c.in-Some.split.entries c.args.number c.args.pattern.now) c.loop-graph.graph (suc (length c.self.inside.routes)) _ _ few c.loop-graph.invariant))
 
-pub returns-in_err-print_answer : goal.returns-in_err-print_answer
-returns-in_err-print_answer g c =
+pub returns-in_err-print_answer-clause-prints : goal.returns-in_err-print_answer-clause-prints
+returns-in_err-print_answer-clause-prints g c =
     let p = err_from_is_err_and c.from_residual-in_err-print_answer.result c.from_residual-in_err-print_answer.ensures.1 in
     let few : c.loop-graph.graph + 1 ≤ suc (length c.self.inside.routes) = omega (arith, c.graphs-graph-end.ensures.count, c.loop-graph-test.true) in
     let prints = rw (c.name.ensures, c.in_ok-rows.ensures) at c.in_err-print_answer.ensures in
@@ -33,9 +33,18 @@ loop-graph-preserved g c =
     let prints = rw (c.name.ensures, c.in_ok-rows.ensures) at c.in_ok-print_answer.ensures in
     below_printed (answer_in c.self.inside.routes c.in-Some.split.entries c.args.number c.args.pattern.now) c.loop-graph.graph _ _ _ c.loop-graph.invariant prints
 
-pub returns : goal.returns
-returns g c =
+pub returns-clause-prints : goal.returns-clause-prints
+returns-clause-prints g c =
     let all : c.loop-graph.graph ≡ suc (length c.self.inside.routes) = omega (arith, c.graphs-graph-end.ensures.count, c.loop-graph-test.false, c.loop-graph.auto.graph-end) in
     rw (← c.self.view_is, c.in-Some.is) (λ world follows.
     answers_printed c.self.inside.routes c.in-Some.split.entries c.self.inside.limit world follows c.args.number c.args.pattern.now _ _ _
     (subst (λ n. Prints (texts_below n (answer_in c.self.inside.routes c.in-Some.split.entries c.args.number c.args.pattern.now)) (output g.K.Sink c.args.out.now) (output g.K.Sink c.loop-graph.out) (Ok tt)) all c.loop-graph.invariant))
+
+pub returns-in_err-rows-clause-lost : goal.returns-in_err-rows-clause-lost
+returns-in_err-rows-clause-lost g c = rw (← c.self.view_is, c.in-Some.is) tt
+
+pub returns-in_err-print_answer-clause-lost : goal.returns-in_err-print_answer-clause-lost
+returns-in_err-print_answer-clause-lost g c = rw (← c.self.view_is, c.in-Some.is) tt
+
+pub returns-clause-lost : goal.returns-clause-lost
+returns-clause-lost g c = rw (← c.self.view_is, c.in-Some.is) tt
