@@ -1,6 +1,6 @@
 # A stream to try many parts with: prints an event file, and writes its pages into a folder.
 #   awk -v size=6070 -v pages=FOLDER -f stream.awk > events.jsonl
-# Like a drill (docs/DRILL.md) of this size: each item is edited twice, out of order and repeated; each fifth is deleted, each tenth is
+# Like a drill (docs/USAGE.md) of this size: each item is edited twice, out of order and repeated; each fifth is deleted, each tenth is
 # followed by a watermark and a late edit. Besides, the later page of one item in a hundred is missing, every 500 items three questions are
 # asked, and half-way version 2 of the mapping is put in force. Items share the nodes of seven amounts and three references.
 
