@@ -1,10 +1,10 @@
 #!/usr/bin/env bash
 # Kills wdq at random moments while it saves, 200 times, and sees that the file of --save is whole each time: the old one or the new one.
 # Every second run goes on from the file that it saves to.
-# usage: scripts/kill_save.sh [TIMES]
+# usage: scripts/kill_save.sh [TIMES]; WDQ names the program, without it this repository's.
 case ${1-} in -h | --help) sed -n '2,4s/^# \{0,1\}//p' "$0" && exit 0 ;; esac
 top=$(cd "$(dirname "$(readlink -f "${BASH_SOURCE[0]}")")/.." && pwd) || exit 2
-program=$top/crates/wdq/out/wdq
+program=${WDQ:-$top/crates/wdq/out/wdq}
 # In other locales the seconds of EPOCHREALTIME have a comma.
 LC_ALL=C
 export LC_ALL

@@ -1,12 +1,19 @@
 #!/usr/bin/env python3
 """Makes pages that are built to be slow, and times what wdq takes for each beside an ordinary page of its size.
 
-    slow_pages.py PROGRAM [SHAPE ..]
+    slow_pages.py [--once] [--most TIMES] PROGRAM [SHAPE ..]
 
 Each page has about 8 MB, the most that wdq reads. A shape is replayed twice: stored alone, and edited (a second revision of the same
-bytes). The time is the processor time of the process, the best of three runs. `ordinary` is the yardstick.
+bytes). The time is the processor time of the process, the best of three runs, or with --once that of one. `ordinary` is the yardstick:
+with --most the script ends with 1 if a page takes more than so many times what storing the ordinary one takes.
 """
-import json, os, resource, subprocess, sys, tempfile
+import argparse
+import json
+import os
+import resource
+import subprocess
+import sys
+import tempfile
 
 SIZE = 8_000_000
 ENTITY = 'Q1'
@@ -121,11 +128,11 @@ SHAPES = [ordinary, long_id_unknown, long_id_texts, long_id_references, long_tit
           empty_objects, one_text, escapes, quotes, long_number, long_amount, many_ranks]
 
 
-def seconds(program, folder, revisions):
-    """the processor time of a replay, and what its side output says"""
+def seconds(program, folder, revisions, rounds):
+    """The processor time of a replay, and what its side output says."""
     lines = ''.join('{"kind":"edit","entity":"Q1","rev":%d,"time":"2024-05-01T10:00:%02dZ"}\n{"watermark":"2024-05-01T10:00:%02dZ"}\n' % (r, r, r) for r in range(1, revisions + 1))
     best, said = None, ''
-    for _ in range(1 if os.environ.get('ONCE') else 3):
+    for _ in range(rounds):
         before = resource.getrusage(resource.RUSAGE_CHILDREN)
         done = subprocess.run([program, 'replay', '--from', folder, '--side'], input=lines.encode(), capture_output=True, timeout=600)
         after = resource.getrusage(resource.RUSAGE_CHILDREN)
@@ -135,25 +142,46 @@ def seconds(program, folder, revisions):
     return best, said
 
 
+def time_shape(program, shape, rounds):
+    """Prints what a shape takes, and gives the seconds of its page stored and edited."""
+    text = shape().encode()
+    with tempfile.TemporaryDirectory() as folder:
+        for revision in (1, 2):
+            with open(f'{folder}/{revision}.json', 'wb') as out:
+                out.write(text)
+        stored, said = seconds(program, folder, 1, rounds)
+        both, _ = seconds(program, folder, 2, rounds)
+    print(f'{shape.__name__:20} {len(text):9} {stored:8.2f} {both - stored:8.2f}  {said}', flush=True)
+    return stored, both - stored
+
+
+def read_words():
+    """The words of the command line."""
+    names = [shape.__name__ for shape in SHAPES]
+    parser = argparse.ArgumentParser(description=__doc__, formatter_class=argparse.RawDescriptionHelpFormatter)
+    parser.add_argument('--once', action='store_true', help='one run in place of three')
+    parser.add_argument('--most', type=float, metavar='TIMES', help='what a page may take at most')
+    parser.add_argument('program', metavar='PROGRAM')
+    parser.add_argument('shapes', nargs='*', metavar='SHAPE', help=', '.join(names))
+    words = parser.parse_args()
+    if unknown := set(words.shapes) - set(names):
+        parser.error(f'no such shape: {", ".join(unknown)}')
+    return words
+
+
 def main():
-    if len(sys.argv) < 2 or sys.argv[1] in ('-h', '--help'):
-        print(__doc__.strip(), file=sys.stdout if len(sys.argv) > 1 else sys.stderr)
-        return 0 if len(sys.argv) > 1 else 64
-    program = os.path.abspath(sys.argv[1])
-    wanted = sys.argv[2:]
+    words = read_words()
+    program = os.path.abspath(words.program)
     print(f'{"shape":20} {"bytes":>9} {"stored":>8} {"edited":>8}  side output')
-    for shape in SHAPES:
-        if wanted and shape.__name__ not in wanted:
-            continue
-        text = shape().encode()
-        with tempfile.TemporaryDirectory() as folder:
-            for revision in (1, 2):
-                with open(f'{folder}/{revision}.json', 'wb') as out:
-                    out.write(text)
-            one, said = seconds(program, folder, 1)
-            two, _ = seconds(program, folder, 2)
-        print(f'{shape.__name__:20} {len(text):9} {one:8.2f} {two - one:8.2f}  {said}', flush=True)
-    return 0
+    took = {shape: time_shape(program, shape, 1 if words.once else 3) for shape in SHAPES
+            if not words.shapes or shape.__name__ in words.shapes or words.most and shape is ordinary}
+    if not words.most:
+        return 0
+    limit = words.most * took[ordinary][0]
+    slow = [shape.__name__ for shape, times in took.items() if max(times) > limit]
+    for name in slow:
+        print(f'{name} takes more than {words.most:g} times what storing the ordinary page takes')
+    return 1 if slow else 0
 
 
 sys.exit(main())

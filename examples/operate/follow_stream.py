@@ -16,7 +16,6 @@ import datetime
 import fcntl
 import http.client
 import json
-import os
 import pathlib
 import queue
 import re
