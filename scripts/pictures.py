@@ -39,8 +39,8 @@ class Picture:
         """Writes a line of text, whose baseline is at y."""
         self.parts.append(f'<text x="{x}" y="{y}" class="{kind}" text-anchor="{anchor}" xml:space="preserve">{escape(line)}</text>')
 
-    def box(self, place, kind, lines, code=False):
-        """Draws a box at (x, y, width, height), with a name in its first line and more lines below it."""
+    def box(self, place, kind, lines, code=False, quiet=0):
+        """Draws a box at (x, y, width, height), with a name in its first line and more lines below it, the first of them quiet."""
         x, y, width, height = place
         self.parts.append(f'<rect x="{x}" y="{y}" width="{width}" height="{height}" rx="8" class="{kind}"/>')
         first = y + (height - LINE * len(lines)) / 2 + 17
@@ -48,7 +48,8 @@ class Picture:
             if code and number:
                 self.text(x + 14, first + LINE * number, line, "code", "start")
             else:
-                self.text(x + width / 2, first + LINE * number, line, "" if number else "name")
+                style = "name" if number == 0 else "label" if number <= quiet else ""
+                self.text(x + width / 2, first + LINE * number, line, style)
 
     def arrow(self, start, end, label="", side="start"):
         """Draws an arrow, and puts a label beside its middle: to the right of it (start), or to the left (end)."""
@@ -107,13 +108,13 @@ def read_layers():
 
 def layers():
     """The layers of crates, each on those below it."""
-    bands = [(name, textwrap.wrap(what, 56) + textwrap.wrap(", ".join(crates), 56)) for name, what, crates in read_layers()]
-    picture = Picture("The layers of crates, each on those below it", 20 + sum(LINE * len(lines) + 60 for _, lines in bands))
+    bands = [(name, textwrap.wrap(what, 60), textwrap.wrap(", ".join(crates), 56)) for name, what, crates in read_layers()]
+    heights = [LINE * (len(what) + len(crates)) + 42 for _, what, crates in bands]
+    picture = Picture("The layers of crates, each on those below it", 20 + sum(height + 18 for height in heights))
     y = 20
     kinds = {"store": "store", "top": "out", "engine": "out"}
-    for name, lines in bands:
-        height = LINE * len(lines) + 42
-        picture.box((20, y, 600, height), kinds.get(name, "box"), [name, *lines])
+    for (name, what, crates), height in zip(bands, heights):
+        picture.box((20, y, 600, height), kinds.get(name, "box"), [name, *what, *crates], quiet=len(what))
         y += height + 18
     return picture
 
