@@ -2,34 +2,50 @@
 
 use crate::filling::MARKS;
 use crate::sections::{Case, Section};
-use anyhow::{Context, Result, bail};
+use anyhow::{Error, Result, anyhow, bail};
 
-// The names of the sections that a case may have several of: one for each page.
-const PAGES: &[&str] = &["page", "pages to"];
+// How a section stands in a case.
+#[derive(Clone, Copy)]
+enum Form {
+    // It may stand several times: one for each page.
+    Page,
+    // It stands once, with lines of its own.
+    Lines,
+    // It stands once, and is one line.
+    Line,
+}
 
-// The names of the other sections that have lines of their own.
-const WITH_LINES: &[&str] = &[
-    "in", "resume", "out", "saved", "records", "side", "owners", "rows",
+// The names of the sections, and how each stands.
+const SECTIONS: &[(&str, Form)] = &[
+    ("page", Form::Page),
+    ("pages to", Form::Page),
+    ("in", Form::Lines),
+    ("resume", Form::Lines),
+    ("out", Form::Lines),
+    ("saved", Form::Lines),
+    ("records", Form::Lines),
+    ("side", Form::Lines),
+    ("owners", Form::Lines),
+    ("rows", Form::Lines),
+    ("words", Form::Line),
+    ("bytes a read", Form::Line),
+    ("bytes a write", Form::Line),
+    ("bytes a save", Form::Line),
+    ("bytes a load", Form::Line),
+    ("failing reads", Form::Line),
+    ("failing writes", Form::Line),
+    ("failing saves", Form::Line),
+    ("failing loads", Form::Line),
+    ("failing fetches", Form::Line),
+    ("cut page", Form::Line),
+    ("cut resume", Form::Line),
+    ("status", Form::Line),
+    ("fetches", Form::Line),
+    ("waiting", Form::Line),
 ];
 
-// The names of those that are one line each.
-const ONE_LINE: &[&str] = &[
-    "words",
-    "bytes a read",
-    "bytes a write",
-    "bytes a save",
-    "bytes a load",
-    "failing reads",
-    "failing writes",
-    "failing saves",
-    "failing loads",
-    "failing fetches",
-    "cut page",
-    "cut resume",
-    "status",
-    "fetches",
-    "waiting",
-];
+// Why a row with a part too many is refused.
+const UNMARKED: &str = "no mark for a part of the row";
 
 /// Sees that each section has a name that is known, stands once where it isn't a page, and has lines, and words behind its name, only
 /// where they mean something; that a table has a row; and that each part of a row has a mark, and each mark a part.
@@ -43,41 +59,33 @@ pub fn check(case: &Case) -> Result<()> {
     }
 }
 
-// Sees that a section has a name that is known, and is as this name wants it.
+// Sees that a section has a name that is known, and stands as this name wants it.
 fn check_section(case: &Case, section: &Section) -> Result<()> {
-    if name_of(PAGES, section).is_some() {
-        return Ok(());
-    }
-    match name_of(WITH_LINES, section) {
-        Some(name) => check_with_lines(case, section, name),
-        None => check_one_line(case, section),
-    }
-}
-
-// Sees that a section with lines of its own has no words behind its name, and stands once.
-fn check_with_lines(case: &Case, section: &Section, name: &str) -> Result<()> {
-    if section.head.as_str() != name {
-        bail!("words behind the name {name:?}");
-    }
-    check_once(case, name)
-}
-
-// Sees that a section is called like one that is one line, has no lines, and stands once.
-fn check_one_line(case: &Case, section: &Section) -> Result<()> {
     let head = section.head.as_str();
-    let name = name_of(ONE_LINE, section).context(format_args!("no section is called {head:?}"))?;
-    if !section.body.is_empty() {
-        bail!("lines below {head:?}");
+    let Some((name, form)) = known(section) else {
+        return Err(refused("no section is called", head));
+    };
+    match form {
+        Form::Page => Ok(()),
+        Form::Lines if head != name => Err(refused("words behind the name", name)),
+        Form::Line if !section.body.is_empty() => Err(refused("lines below", head)),
+        _ => check_once(case, name),
     }
-    check_once(case, name)
 }
 
-// The name that a section has, where it is one of these.
-fn name_of<'n>(names: &'n [&'n str], section: &Section) -> Option<&'n str> {
-    names
-        .iter()
-        .copied()
-        .find(|name| section.words_of(name).is_some())
+// Why a section or a row is refused.
+fn refused(what: &str, text: &str) -> Error {
+    anyhow!("{what} {text:?}")
+}
+
+// The name that a section has, and how such a section stands.
+fn known(section: &Section) -> Option<(&'static str, Form)> {
+    for (name, form) in SECTIONS {
+        if section.words_of(name).is_some() {
+            return Some((*name, *form));
+        }
+    }
+    None
 }
 
 // Sees that no two sections have this name.
@@ -111,7 +119,7 @@ fn check_row(case: &Case, row: &str) -> Result<()> {
         check_mark(case, row, mark, index < parts)?;
     }
     if parts > MARKS.len() {
-        bail!("no mark for a part of the row {row:?}");
+        return Err(refused(UNMARKED, row));
     }
     Ok(())
 }
@@ -119,8 +127,8 @@ fn check_row(case: &Case, row: &str) -> Result<()> {
 // Sees that a mark stands somewhere just where the row has a part for it.
 fn check_mark(case: &Case, row: &str, mark: &str, has_part: bool) -> Result<()> {
     match (has_part, has_mark(case, mark)) {
-        (true, false) => bail!("no mark for a part of the row {row:?}"),
-        (false, true) => bail!("no part for a mark in the row {row:?}"),
+        (true, false) => Err(refused(UNMARKED, row)),
+        (false, true) => Err(refused("no part for a mark in the row", row)),
         _ => Ok(()),
     }
 }

@@ -1,14 +1,13 @@
 //! Case files: what they say, without a run.
 //!
 //! `folder` reads the files; `sections` takes a file apart into cases and their sections, and `filling` puts the parts of a table's
-//! row in; `copying` copies what a run is given; `spelling` makes bytes of the short forms; `checking` sees that no line of a case goes unseen; `parts` reads what a case
+//! row in; `spelling` makes bytes of the short forms; `checking` sees that no line of a case goes unseen; `parts` reads what a case
 //! gives and expects; `pieces` has the lines of a text and how many ask, what each read and write of a run has, and the first answers
 //! of an output; `differences` finds the first lines that differ. README.md of crates/cases says how a case is written. The program `cases` makes
 //! the runs. No function here has a contract: both only serve the gate.
 #![tactic(auto)]
 
 mod checking;
-mod copying;
 mod differences;
 mod filling;
 mod folder;

@@ -79,7 +79,7 @@ const EACH: [(&str, Turns); 4] = [
 
 impl Given {
     // Nothing, of which no call fails. Other functions fill it in, so no way out drops its parts one by one, which would make long proofs.
-    pub(crate) fn new(alloc: Global) -> Given {
+    fn new(alloc: Global) -> Given {
         Given {
             words: Vec::new(alloc),
             input: Vec::new(alloc),

@@ -1,11 +1,12 @@
 // A run cut in two after each of its lines: the first part is saved, and the second goes on from the snapshot.
 
-use crate::comparing::{ending, tried_once};
+use crate::comparing::tried_once;
 use crate::runner::{Left, Runner};
 use crate::trial::{Trial, differs_at};
 use anyhow::Result;
-use case_file::{Case, Expected, Given, differing, split_lines};
+use case_file::{Case, Expected, Given, differing, expected_of, given_of, split_lines};
 use std::alloc::{AllocError, Global};
+use std::mem;
 
 // The most lines of a case that is cut: each of its runs costs as much as the whole.
 const MOST_LINES: usize = 64;
@@ -45,6 +46,7 @@ pub(crate) fn is_cut(case: &Case, given: &Given, expected: &Expected) -> bool {
 pub(crate) fn tried_in_two<R: Runner>(
     alloc: Global,
     runner: &R,
+    case: &Case,
     given: &Given,
     expected: &Expected,
 ) -> Result<Trial> {
@@ -57,7 +59,7 @@ pub(crate) fn tried_in_two<R: Runner>(
     };
     for cut in 0..cuts {
         runs = runs.saturating_add(2);
-        let found = difference_of_parts(alloc, runner, given, expected, cut)?;
+        let found = difference_of_parts(alloc, runner, case, expected, cut)?;
         if let Some(difference) = found {
             return differs_at(alloc, "the cut", cut as u64, runs, difference);
         }
@@ -79,18 +81,18 @@ struct First {
 fn difference_of_parts<R: Runner>(
     alloc: Global,
     runner: &R,
-    given: &Given,
+    case: &Case,
     expected: &Expected,
     cut: usize,
 ) -> Result<Option<String>> {
-    let part = first_part(alloc, given, cut)?;
+    let part = first_part(alloc, case, cut)?;
     let left = runner.run(alloc, &part, b"");
     drop(part);
     let first = First {
         lines: cut,
         left: left?,
     };
-    let found = difference_behind(alloc, runner, given, expected, &first);
+    let found = difference_behind(alloc, runner, case, expected, &first);
     drop(first);
     found
 }
@@ -99,7 +101,7 @@ fn difference_of_parts<R: Runner>(
 fn difference_behind<R: Runner>(
     alloc: Global,
     runner: &R,
-    given: &Given,
+    case: &Case,
     expected: &Expected,
     first: &First,
 ) -> Result<Option<String>> {
@@ -113,8 +115,8 @@ fn difference_behind<R: Runner>(
         let found = differing(alloc, "output of the first part", out, left.out.as_slice());
         return Ok(found?);
     };
-    let rest = rest(alloc, expected, left, out)?;
-    let found = tried_second(alloc, runner, given, &rest, first);
+    let rest = rest(alloc, case, left, out)?;
+    let found = tried_second(alloc, runner, case, &rest, first);
     drop(rest);
     found
 }
@@ -123,35 +125,30 @@ fn difference_behind<R: Runner>(
 fn tried_second<R: Runner>(
     alloc: Global,
     runner: &R,
-    given: &Given,
+    case: &Case,
     rest: &Expected,
     first: &First,
 ) -> Result<Option<String>> {
-    let second = second_part(alloc, given, first)?;
+    let second = second_part(alloc, case, first)?;
     let found = tried_once(alloc, runner, &second, rest);
     drop(second);
     found
 }
 
-// The first lines, which are saved. No section is printed.
-fn first_part(alloc: Global, given: &Given, cut: usize) -> Result<Given, AllocError> {
-    let mut part = given.copy(alloc)?;
-    let Ok(()) = keep_first(alloc, given, cut, &mut part) else {
+// What the first part is given: the first lines, which are saved. No section is printed.
+fn first_part(alloc: Global, case: &Case, cut: usize) -> Result<Given> {
+    let mut part = given_of(alloc, case)?;
+    let Ok(()) = keep_first(alloc, cut, &mut part) else {
         drop(part);
-        return Err(AllocError);
+        return Err(AllocError.into());
     };
     Ok(part)
 }
 
 // Leaves the first lines, and the words that save.
-fn keep_first(
-    alloc: Global,
-    given: &Given,
-    cut: usize,
-    part: &mut Given,
-) -> Result<(), AllocError> {
-    part.words = saving_words(alloc, given.words.as_slice())?;
-    part.input = first_lines(alloc, given.input.as_slice(), cut)?;
+fn keep_first(alloc: Global, cut: usize, part: &mut Given) -> Result<(), AllocError> {
+    part.words = saving_words(alloc, part.words.as_slice())?;
+    part.input = first_lines(alloc, part.input.as_slice(), cut)?;
     Ok(())
 }
 
@@ -176,27 +173,22 @@ fn first_lines(alloc: Global, text: &[u8], count: usize) -> Result<Vec<u8>, Allo
     }
 }
 
-// The other lines, which go on from what was saved.
-fn second_part(alloc: Global, given: &Given, first: &First) -> Result<Given, AllocError> {
-    let mut part = given.copy(alloc)?;
-    let Ok(()) = go_on_from(alloc, given, first, &mut part) else {
+// What the second part is given: the other lines, which go on from what was saved.
+fn second_part(alloc: Global, case: &Case, first: &First) -> Result<Given> {
+    let mut part = given_of(alloc, case)?;
+    let Ok(()) = go_on_from(alloc, first, &mut part) else {
         drop(part);
-        return Err(AllocError);
+        return Err(AllocError.into());
     };
     Ok(part)
 }
 
 // Lets a run go on from what the first part saved, with the lines behind it. The calls that fail are counted on.
-fn go_on_from(
-    alloc: Global,
-    given: &Given,
-    first: &First,
-    part: &mut Given,
-) -> Result<(), AllocError> {
+fn go_on_from(alloc: Global, first: &First, part: &mut Given) -> Result<(), AllocError> {
     push_word(alloc, &mut part.words, "--resume=day")?;
     part.resumed = Vec::from_slice(alloc, first.left.saved.as_slice())?;
-    part.failing_fetches = counted_on(alloc, given.failing_fetches.as_slice(), first.left.fetches)?;
-    part.input = lines_behind(alloc, given.input.as_slice(), first.lines)?;
+    part.failing_fetches = counted_on(alloc, part.failing_fetches.as_slice(), first.left.fetches)?;
+    part.input = lines_behind(alloc, part.input.as_slice(), first.lines)?;
     Ok(())
 }
 
@@ -231,25 +223,17 @@ fn output_behind<'a>(
 }
 
 // What the second part must leave: this output, and everything else as the whole.
-fn rest(alloc: Global, whole: &Expected, first: &Left, out: &[u8]) -> Result<Expected, AllocError> {
-    let mut rest = ending(alloc, whole.status.as_str(), out)?;
-    let Ok(()) = copy_world(alloc, whole, &mut rest) else {
+fn rest(alloc: Global, case: &Case, first: &Left, out: &[u8]) -> Result<Expected> {
+    let mut rest = expected_of(alloc, case)?;
+    let Ok(out) = Vec::from_slice(alloc, out) else {
         drop(rest);
-        return Err(AllocError);
+        return Err(AllocError.into());
     };
-    rest.fetches = whole
+    drop(mem::replace(&mut rest.out, out));
+    rest.fetches = rest
         .fetches
         .map(|count| count.saturating_sub(first.fetches));
-    rest.waiting = whole.waiting;
     Ok(rest)
-}
-
-// Copies what the world must have.
-fn copy_world(alloc: Global, whole: &Expected, rest: &mut Expected) -> Result<(), AllocError> {
-    rest.records = copied(alloc, &whole.records)?;
-    rest.side = copied(alloc, &whole.side)?;
-    rest.owners = copied(alloc, &whole.owners)?;
-    Ok(())
 }
 
 // What a part printed before the triples of its graphs, if it has graphs.
@@ -276,12 +260,4 @@ fn push_word(alloc: Global, words: &mut Vec<String>, word: &str) -> Result<(), A
     let word = String::from_str(alloc, word)?;
     words.push(word)?;
     Ok(())
-}
-
-// A section that is looked at, with memory of its own.
-fn copied(alloc: Global, section: &Option<Vec<u8>>) -> Result<Option<Vec<u8>>, AllocError> {
-    match section {
-        None => Ok(None),
-        Some(bytes) => Ok(Some(Vec::from_slice(alloc, bytes.as_slice())?)),
-    }
 }

@@ -106,7 +106,7 @@ fn tried_whole<R: Runner>(
     expected: &Expected,
 ) -> Result<Trial> {
     match tried_once(alloc, runner, given, expected)? {
-        None if is_cut(case, given, expected) => tried_in_two(alloc, runner, given, expected),
+        None if is_cut(case, given, expected) => tried_in_two(alloc, runner, case, given, expected),
         difference => Ok(Trial {
             runs: 1,
             difference,

@@ -5,7 +5,7 @@ ghost use Rattle.std.specs.{Char.is_ascii_alphanumeric, List.list_all};
 ghost use Rattle.json_spell.specs.View.{json_view};
 ghost use Rattle.entity_model.specs.Value.{is_entity_text};
 ghost use Rattle.entity_json.specs.Finds.{Finds};
-ghost use Rattle.entity_json.specs.Reading.Values.{numbered_type, numeric_id, numbered_entity, entity_value, time_of, quantity_of, globe_of, value_of_type, value_of};
+ghost use Rattle.entity_json.specs.Reading.Values.{numbered_type, numeric_id, numbered_entity, entity_value, time_of, quantity_of, globe_of, value_of_parts, value_of_type, value_of};
 
 use crate::leaf::{
     copy_text, copy_text_at, member_at, nullable_number_at, number_at, optional_text_at, text_at,
@@ -102,8 +102,6 @@ fn entity_value<'a>(alloc: Global, json: &Json<'_, 'a>) -> Result<CowText<'a>, P
 fn time_of<'a>(alloc: Global, json: &Json<'_, 'a>) -> Result<TimeParts<'a>, PartFault>
     ensures { Finds result (time_of (json_view json.now)) }
 {
-    let time = copy_text_at(alloc, json, "time")?;
-    let calendar = copy_text_at(alloc, json, "calendarmodel")?;
     let precision_text = number_at(json, "precision")?;
     let Some(precision) = small_of(precision_text) else {
         return Err(PartFault::Shape);
@@ -112,6 +110,8 @@ fn time_of<'a>(alloc: Global, json: &Json<'_, 'a>) -> Result<TimeParts<'a>, Part
     if !is_whole(timezone.as_bytes()) {
         return Err(PartFault::Shape);
     }
+    let time = copy_text_at(alloc, json, "time")?;
+    let calendar = copy_text_at(alloc, json, "calendarmodel")?;
     Ok(TimeParts {
         time,
         precision,
@@ -156,7 +156,7 @@ fn globe_of<'a>(alloc: Global, json: &Json<'_, 'a>) -> Result<GlobeParts<'a>, Pa
 }
 
 // A value of the type; one of a type that isn't named here may be anything.
-#[tactic(auto, unfolding(crate::specs::Reading::Values::value_of_type))]
+#[tactic(auto, unfolding(crate::specs::Reading::Values::value_of_type, crate::specs::Reading::Values::value_of_parts))]
 fn value_of_type<'a>(alloc: Global, kind: &str, json: &Json<'_, 'a>) -> Result<Value<'a>, PartFault>
     ensures { Finds result (value_of_type kind.now (json_view json.now)) }
 {
@@ -166,6 +166,18 @@ fn value_of_type<'a>(alloc: Global, kind: &str, json: &Json<'_, 'a>) -> Result<V
     if kind == "wikibase-entityid" {
         return Ok(Value::Entity(entity_value(alloc, json)?));
     }
+    value_of_parts(alloc, kind, json)
+}
+
+// The same of a type whose values have parts.
+#[tactic(auto, unfolding(crate::specs::Reading::Values::value_of_parts))]
+fn value_of_parts<'a>(
+    alloc: Global,
+    kind: &str,
+    json: &Json<'_, 'a>,
+) -> Result<Value<'a>, PartFault>
+    ensures { Finds result (value_of_parts kind.now (json_view json.now)) }
+{
     if kind == "time" {
         return Ok(Value::Time(time_of(alloc, json)?));
     }

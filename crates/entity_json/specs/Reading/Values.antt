@@ -80,6 +80,15 @@ value_of_type type t =
     (cond (bytes_eq type (codes "monolingualtext")) (option_map Mono (tagged_under (codes "text") t))
     (Some Other))))))
 
+-- the same of a type whose values have parts
+unfoldable pub value_of_parts : List ℕ → Tree → Option Value
+value_of_parts type t =
+    cond (bytes_eq type (codes "time")) (option_map Time (time_of t))
+    (cond (bytes_eq type (codes "quantity")) (option_map Quantity (quantity_of t))
+    (cond (bytes_eq type (codes "globecoordinate")) (option_map Globe (globe_of t))
+    (cond (bytes_eq type (codes "monolingualtext")) (option_map Mono (tagged_under (codes "text") t))
+    (Some Other))))
+
 -- a data value
 unfoldable pub value_of : Tree → Option Value
 value_of t = do
