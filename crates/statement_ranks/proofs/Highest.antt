@@ -16,7 +16,7 @@ use Rattle.rdf_vocabulary.proofs.Shared.{both}
 use Rattle.statement_ranks.specs.Ranking.{rank_number, is_ranked_above, is_best, IsBest}
 
 -- ids that their order does not tell apart are one id
-same_id : (x y : EntityId) → eq_by_cmp entity_cmp x y ≡ true → x ≡ y
+pub same_id : (x y : EntityId) → eq_by_cmp entity_cmp x y ≡ true → x ≡ y
 same_id x y e = entity_cmp_same x y (equal (entity_cmp x y) e)
 
 id_itself : (x y : EntityId) → y ≡ x → eq_by_cmp entity_cmp x y ≡ true
