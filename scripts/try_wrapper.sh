@@ -1,5 +1,5 @@
 #!/usr/bin/env bash
-# Tries ./wdq and ./install.sh over stand-ins for the program and for the toolchain's rt, in files and in terminals, which `script`
+# Tries ./wdq, ./install.sh and .ci/run over stand-ins for the program and for the toolchain's rt, in files and in terminals, which `script`
 # (util-linux) makes. It proves and builds nothing, and takes half a minute. Its last line counts what passed.
 case ${1-} in -h | --help) sed -n '2,3s/^# \{0,1\}//p' "$0" && exit 0 ;; esac
 top=$(cd "$(dirname "$(readlink -f "${BASH_SOURCE[0]}")")/.." && pwd) || exit 2
@@ -25,6 +25,7 @@ printf '# layers\nlower:\nupper: lower thiserror\nwdq: upper\ncases: lower\n' >"
 cat >"$room/program" <<'END'
 #!/usr/bin/env bash
 printf '%s\n' "$@" >"${ROOM:?}/words"
+echo $$ >"$ROOM/process"
 [ -z "${STAND_IN_SLEEP-}" ] || exec sleep "$STAND_IN_SLEEP"
 case ${STAND_IN_STATUS:=0} in
   0) cat ;;
@@ -308,7 +309,7 @@ for number in 2 3 4 5 6 7 8; do
 done
 in_terminal "'$checkout/wdq' replay --export <&-"
 wants 'a closed input' 'cat: -: Bad file descriptor' "${shown%%$'\n'*}"
-in_terminal "STAND_IN_SLEEP=60 '$checkout/wdq' drill --size 1 < /dev/null & child=\$!; sleep 1; kill \$child; wait \$child; echo \$?; pgrep -f '^sleep 60\$' -s 0"
+in_terminal "STAND_IN_SLEEP=60 '$checkout/wdq' drill --size 1 < /dev/null & child=\$!; sleep 1; kill \$child; wait \$child; echo \$?; kill -0 \$(cat '$room/process') 2>/dev/null && echo alive"
 wants 'a signal goes on to the program' 143 "${shown##*$'\n'}"
 in_interrupted_terminal "$room/words" "STAND_IN_SLEEP=60 '$checkout/wdq' drill --size 1"
 wants 'Ctrl-C ends the program' 130 "${shown##*status }"
@@ -370,6 +371,23 @@ wants 'a build in the checkout is stopped' '143 wdq: the build was interrupted; 
 unset RT_KIT
 PATH=/usr/bin:/bin "$checkout/wdq" replay </dev/null >out 2>err
 wants 'there is no rt' '70 1' "$? $(grep -c "command 'rt' is not on PATH" err)"
+
+# --- The gate ---
+
+mkdir "$checkout/.ci"
+cp "$top/.ci/run" "$checkout/.ci/"
+cat >"$checkout/scripts/check.sh" <<'END'
+#!/bin/sh
+echo '4 passed, 0 failed, 1 skipped'
+exit "${CHECK_STATUS:-0}"
+END
+chmod +x "$checkout/scripts/check.sh"
+"$checkout/.ci/run" >out 2>err
+wants 'a gate' $'0 4 passed, 0 failed, 1 skipped\n3 passed, 0 failed' "$? $(tail -n 2 out)"
+CHECK_STATUS=1 "$checkout/.ci/run" >out 2>err
+wants 'a gate whose checks fail' '1 3 passed, 0 failed' "$? $(tail -n 1 out)"
+RT_FAILS=crate "$checkout/.ci/run" >out 2>err
+wants 'a gate whose proofs fail' '1 1 passed, 2 failed' "$? $(tail -n 1 out)"
 
 # --- The installed program ---
 
