@@ -1,0 +1,158 @@
+"""What the tests share: a made-up wiki, a store behind SPARQL, and a mirror that is run by its commands."""
+
+import json
+import os
+import pathlib
+import re
+import shutil
+import subprocess
+import sys
+import typing
+import urllib.parse
+import urllib.request
+
+import pytest
+
+TESTS = pathlib.Path(__file__).resolve().parent
+sys.path.insert(0, str(TESTS.parent))
+PYTHON = "/usr/bin/python3"
+ENTITIES = "60"
+
+
+def started(*words: str) -> tuple[subprocess.Popen[str], str]:
+    """Starts a server, and gives the address that it prints."""
+    child = subprocess.Popen(words, stdout=subprocess.PIPE, text=True)
+    assert child.stdout
+    return child, child.stdout.readline().strip()
+
+
+class Wiki:
+    """A made-up wiki that is up."""
+
+    def __init__(self, folder: pathlib.Path, size: str = ENTITIES):
+        self.folder = folder
+        self.child, self.site = started(PYTHON, str(TESTS / "made_up_wiki.py"), str(folder), size)
+        self.control(cuts=1)
+
+    def control(self, **words: int) -> dict[str, int]:
+        """Sets how the wiki goes on."""
+        with urllib.request.urlopen(f"{self.site}/control?{urllib.parse.urlencode(words)}") as answer:
+            return json.load(answer)
+
+    @property
+    def began(self) -> str:
+        """When the dump was begun."""
+        return (self.folder / "began").read_text()
+
+    @property
+    def dump(self) -> str:
+        """The dump."""
+        return str(self.folder / "dump.json.gz")
+
+
+class Mirror:
+    """A mirror by its commands."""
+
+    def __init__(self, home: pathlib.Path):
+        self.home = home
+        self.said = self.told = ""
+
+    def run(self, *words: str) -> int:
+        """Runs a command, and keeps what it prints."""
+        command = [PYTHON, str(TESTS.parent / "wdq-mirror"), "--home", str(self.home), *words]
+        ended = subprocess.run(command, capture_output=True, text=True, timeout=300)
+        self.said, self.told = ended.stdout, ended.stderr
+        return ended.returncode
+
+    def good(self, *words: str) -> str:
+        """Runs a command that has to do well."""
+        status = self.run(*words)
+        assert status == 0, (words, status, self.said, self.told)
+        return self.said
+
+    def set(self, **values: typing.Any) -> None:
+        """Changes settings."""
+        path = self.home / "mirror.toml"
+        text = path.read_text()
+        for name, value in values.items():
+            text, found = re.subn(rf"(?m)^{name} = .*$", lambda _: f"{name} = {json.dumps(value)}", text)
+            assert found == 1, name
+        path.write_text(text)
+
+    def init(self, wiki: Wiki, *words: str) -> "Mirror":
+        """Makes the home, with short pauses."""
+        self.good("init", "--agent", "try/1.0 (nobody@example.org)", "--site", wiki.site, "--stream-url", wiki.site + "/stream", *words)
+        self.set(pause_seconds=0.02, keep_eras=0, history_days=0)
+        return self
+
+    def load(self, wiki: Wiki) -> "Mirror":
+        """Loads the wiki's dump."""
+        self.good("load", "--began", wiki.began, wiki.dump)
+        return self
+
+    def step(self) -> str:
+        """Takes a batch of the stream."""
+        return self.good("step", "--idle", "1")
+
+    def copy(self, to: pathlib.Path) -> "Mirror":
+        """The same home at another place."""
+        shutil.copytree(self.home, to)
+        return Mirror(to)
+
+
+def export_of(wiki: Wiki) -> list[str]:
+    """The triples of the pages that the wiki has at the end, by a replay."""
+    from wdq_mirror import program, settings
+
+    with open(wiki.folder / "now.jsonl", "rb") as events:
+        words = [program.find(settings.Settings()), "replay", "--from", str(wiki.folder / "now"), "--export"]
+        ended = subprocess.run(words, stdin=events, capture_output=True, check=True)
+    return sorted(ended.stdout.decode().split("\n")[1:-1])
+
+
+def stored(home: pathlib.Path) -> list[str]:
+    """The triples of the embedded store, as wdq spells them."""
+    import sqlite3
+
+    base = sqlite3.connect(home / "store.db")
+    found = [" ".join(row) + " ." for row in base.execute("SELECT subject, predicate, object FROM triples")]
+    base.close()
+    return sorted(found)
+
+
+def settle(mirror: Mirror, wiki: Wiki) -> None:
+    """Takes batches until the store has what the wiki has at the end. Without a delay, so that the last seconds don't wait."""
+    mirror.set(delay_seconds=0)
+    for _ in range(12):
+        mirror.step()
+        if stored(mirror.home) == export_of(wiki):
+            return
+    assert stored(mirror.home) == export_of(wiki)
+
+
+@pytest.fixture
+def wiki(tmp_path: pathlib.Path) -> typing.Iterator[Wiki]:
+    """A made-up wiki."""
+    found = Wiki(tmp_path / "wiki")
+    yield found
+    found.child.kill()
+    found.child.wait()
+
+
+@pytest.fixture
+def endpoint() -> typing.Iterator[str]:
+    """A store behind SPARQL that gives at most 100 rows."""
+    pytest.importorskip("rdflib")
+    child, url = started(PYTHON, str(TESTS / "sparql_endpoint.py"), "--rows", "100")
+    yield url
+    child.kill()
+    child.wait()
+
+
+@pytest.fixture
+def mirror(tmp_path: pathlib.Path) -> Mirror:
+    """A mirror without a home yet."""
+    return Mirror(tmp_path / "home")
+
+
+os.environ.setdefault("PYTHONDONTWRITEBYTECODE", "1")

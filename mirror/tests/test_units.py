@@ -1,0 +1,270 @@
+"""The modules, one by one."""
+
+import hashlib
+import pathlib
+import sqlite3
+
+import pytest
+from conftest import Mirror
+
+from wdq_mirror import counts, errors, event_lines, home, records, settings, stream, terms, times, verifying
+from wdq_mirror.stores import sparql
+
+DECIMAL = "http://www.w3.org/2001/XMLSchema#decimal"
+
+
+def made(path: pathlib.Path) -> home.Home:
+    """A home that nothing is in."""
+    home.make(path, settings.Settings())
+    return home.Home(path)
+
+
+# --- Settings ---
+
+
+def test_settings_come_back_as_they_were_written() -> None:
+    found = settings.Settings()
+    found.wiki.agent, found.mirror.counts = 'a "quoted" one (jane@example.org)', True
+    assert settings.parse(settings.write(found)) == found
+
+
+@pytest.mark.parametrize(
+    ("text", "said"),
+    [
+        ("[mirror]\ngraf = 'urn:a'", "did you mean graph?"),
+        ("[mirrors]\n", "did you mean mirror?"),
+        ("[mirror]\ncounts = 1", "should be of the kind of False"),
+        ("[mirror]\ngraph = '<urn:a>'", "without angle brackets"),
+        ("[mirror]\nshard = '4/4'", "K from 0 to N - 1"),
+        ("[store]\nkind = 'sparql'", "should be an address"),
+        ("[store]\nkind = 'sparkle'", "should be one of embedded, sparql"),
+        ("[store]\nbatch_records = 0", "at least 1"),
+        ("mirror = 3", "is no section"),
+        ("[mirror", "is no TOML"),
+    ],
+)
+def test_settings_that_are_wrong(text: str, said: str) -> None:
+    with pytest.raises(errors.Usage, match=".*") as found:
+        settings.parse(text)
+    assert said in str(found.value)
+
+
+def test_an_agent_that_names_nobody() -> None:
+    with pytest.raises(errors.Usage):
+        settings.check_agent(settings.parse("[wiki]\nagent = 'mirror/1.0'"))
+    settings.check_agent(settings.parse("[wiki]\nagent = 'mirror/1.0 (jane@example.org)'"))
+
+
+def test_a_shard_has_its_entities() -> None:
+    found = settings.parse("[mirror]\nshard = '1/3'")
+    assert [entity for entity in ("Q1", "P2", "L3", "Q4") if found.has(entity)] == ["Q1", "Q4"]
+
+
+# --- The home ---
+
+
+def test_a_home_refuses_settings_that_differ_from_those_it_was_made_with(tmp_path: pathlib.Path) -> None:
+    one = made(tmp_path / "home")
+    one.fix_facts()
+    one.close_era(home.Era(0, home.Position(0, "a"), ""))
+    one.close()
+    text = (tmp_path / "home/mirror.toml").read_text()
+    for name, value in (("horizon_hours", "5"), ("shard", '"0/2"'), ("stream", '"urn:b"'), ("name", '"other"'), ("counts", "true")):
+        before = next(line for line in text.splitlines() if line.startswith(name + " = "))
+        (tmp_path / "home/mirror.toml").write_text(text.replace(before, f"{name} = {value}"))
+        with pytest.raises(errors.Mismatch, match="set it back"):
+            home.Home(tmp_path / "home")
+
+
+def test_two_processes_do_not_change_a_home(tmp_path: pathlib.Path) -> None:
+    one, other = made(tmp_path / "home"), home.Home(tmp_path / "home")
+    one.lock()
+    with pytest.raises(errors.Mismatch, match="another wdq-mirror"):
+        other.lock()
+    one.close()
+    other.lock()
+
+
+def test_a_page_that_was_given_up_comes_back_with_the_next_era(tmp_path: pathlib.Path) -> None:
+    one = made(tmp_path / "home")
+    one.give_up(2**64 - 1, "Q1", 1)
+    assert one.is_given_up(2**64 - 1) and one.goes_without_pages()
+    one.close_era(home.Era(1, home.Position(0, "a"), ""))
+    assert not one.is_given_up(2**64 - 1)
+
+
+# --- Lines, records, terms ---
+
+
+def test_records_are_read_and_chained() -> None:
+    text = b'# patch 1 +1 -1\n<urn:a> <urn:b> "c\\n"@en .\n<urn:a> <urn:b> <urn:d> .\n# patch 2 +0 -0\n'
+    first, second = records.read_records(text.splitlines(keepends=True))
+    assert (first.number, len(first.adds), len(first.removes), second.number) == (1, 1, 1, 2)
+    place = first.after(home.Position(0, "x"))
+    assert place.digest == hashlib.sha256(b"x" + hashlib.sha256(first.text).digest()).hexdigest()
+    assert second.after(place) != second.after(home.Position(1, "y"))
+
+
+def test_a_record_that_is_cut_off_is_none() -> None:
+    whole = b"# patch 1 +1 -0\n<urn:a> <urn:b> <urn:c> .\n"
+    assert not list(records.read_records((whole + whole[:5]).splitlines(keepends=True)[:1]))
+    assert not list(records.read_records(whole[:-1].splitlines(keepends=True)))
+    with pytest.raises(errors.Mismatch):
+        list(records.read_records([b"# other\n"]))
+
+
+@pytest.mark.parametrize("text", ["plain", 'a "quote"', "back\\slash", "\\u0041", "two\nlines\r\t", "naïve 東京 😀", "\x01\x7f"])
+def test_literals_come_back(text: str) -> None:
+    line = terms.Triple(terms.Iri("urn:a"), terms.Iri("urn:b"), terms.Literal(text, "en", "")).sparql()
+    assert terms.read_triple(line).object == terms.Literal(text, "en", "")
+
+
+@pytest.mark.parametrize("line", ["<a> <b> _:c .", "<a> <b> c .", '<a> <b> "c', '<a> <b> "\\q" .', '<a> <b> "\\ud800" .'])
+def test_lines_that_are_no_triples(line: str) -> None:
+    with pytest.raises(ValueError):
+        terms.read_triple(line)
+
+
+def decimal(text: str) -> terms.Triple:
+    """A triple with a number."""
+    return terms.Triple(terms.Iri("urn:s"), terms.Iri("urn:p"), terms.Literal(text, "", DECIMAL))
+
+
+def test_a_value_goes_with_its_last_spelling(tmp_path: pathlib.Path) -> None:
+    found = counts.Counts(tmp_path / "counts.db", "home")
+    sent = found.change(decimal("+5"), True)
+    assert sent and found.change(decimal("5.00"), True) is None and found.change(decimal("+5"), False) is None
+    assert found.change(decimal("5.00"), False) == sent
+    with pytest.raises(errors.Mismatch, match="reload"):
+        found.change(decimal("5"), False)
+
+
+def test_counts_that_were_not_kept_are_lost_with_the_process(tmp_path: pathlib.Path) -> None:
+    found = counts.Counts(tmp_path / "counts.db", "home")
+    found.change(decimal("5"), True)
+    found.keep(3)
+    found.change(decimal("6"), True)
+    found.close()
+    again = counts.Counts(tmp_path / "counts.db", "home")
+    assert again.number == 3 and again.base.execute("SELECT COUNT(*) FROM counts").fetchone() == (1,)
+    again.close()
+    with pytest.raises(errors.Mismatch, match="another home"):
+        counts.Counts(tmp_path / "counts.db", "other")
+
+
+def test_values_that_stores_spell_their_own_way_compare_as_equal() -> None:
+    assert verifying.value_of(decimal("+5")) == verifying.value_of(decimal("5.00")) != verifying.value_of(decimal("6"))
+
+
+def test_an_update_removes_adds_and_marks_in_this_order() -> None:
+    lines = [f"<urn:a> <urn:b> <urn:{number}> ." for number in range(2500)]
+    assert [block.count("\n") for block in sparql.blocks("INSERT", "urn:g", lines)] == [1001, 1001, 501]
+
+
+# --- The stream ---
+
+
+def offset(*numbers: int) -> str:
+    """A place with offsets."""
+    import json
+
+    return json.dumps([{"topic": f"t{index}", "partition": 0, "offset": number} for index, number in enumerate(numbers)])
+
+
+@pytest.mark.parametrize(
+    ("before", "after", "passed", "gap"),
+    [
+        (offset(5), offset(6), 3600, False),
+        (offset(5), offset(7), 1, True),
+        (offset(5), offset(5), 1, False),
+        (offset(5, -1), offset(9, 3), 1, True),
+        ('[{"topic":"t","timestamp":1}]', '[{"topic":"t","timestamp":2}]', 5, False),
+        ('[{"topic":"t","timestamp":1}]', '[{"topic":"t","timestamp":2}]', 11, True),
+        ("", offset(4), 11, True),
+    ],
+)
+def test_gaps(before: str, after: str, passed: int, gap: bool) -> None:
+    message = stream.Message(after, 1_000_000_000 + passed * 1_000_000, None)
+    assert stream.is_gap(before, 1_000_000_000, message, 10) is gap
+
+
+def test_messages_of_server_sent_events() -> None:
+    parser = stream.Messages()
+    found = [told for line in ("id: 7", "data: a", "data:b", "", ": heartbeat", "", "event: error", "data: x", "") if (told := parser.take(line))]
+    assert found == [("a\nb", "7")]
+
+
+def test_times() -> None:
+    assert times.micros("1970-01-01T00:00:01.5Z") == 1_500_000
+    assert times.text_of(times.micros("2024-05-01T10:00:05.000001Z")) == "2024-05-01T10:00:05.000001Z"
+
+
+def test_refused_lines_are_explained() -> None:
+    refusal = event_lines.refusal_of(b'{"kind":"edit","entity":"q1","rev":5,"time":"2024-05-01T10:00:05Z"}')
+    assert refusal and refusal.cause == "Entity" and 'did you mean "Q1"?' in str(refusal)
+
+
+# --- The commands, without a wiki ---
+
+
+def test_a_home_that_is_none(mirror: Mirror) -> None:
+    assert mirror.run("status") == 2
+    assert "wdq-mirror init makes one" in mirror.told
+
+
+def test_words_that_are_wrong(mirror: Mirror) -> None:
+    assert mirror.run("init", "--agent", "nobody") == 2 and "names nobody" in mirror.told
+    mirror.good("init", "--agent", "try/1.0 (nobody@example.org)")
+    assert mirror.run("init") == 2 and "is a home already" in mirror.told
+    assert mirror.run("load", "/dev/null/none") == 2
+    for command in ("step", "verify", "update", "reload", "heal"):
+        assert mirror.run(command) == 2 and "holds nothing yet: wdq-mirror load DUMP" in mirror.told
+
+
+def test_a_dump_that_is_cut_off_or_has_bad_lines(mirror: Mirror, tmp_path: pathlib.Path) -> None:
+    mirror.good("init", "--agent", "try/1.0 (nobody@example.org)")
+    dump = tmp_path / "dump.json"
+    good = '{"type":"item","id":"Q1","lastrevid":5,"modified":"2024-05-01T10:00:00Z","labels":{},"claims":{}}'
+    dump.write_text(f'[\n{good},\n{{"type":"item","id":"Q2"}}\n]\n')
+    assert mirror.run("load", str(dump)) == 7 and "--skip-bad-lines" in mirror.told
+    (tmp_path / "cut.json.gz").write_bytes(b"\x1f\x8b\x08\x00")
+    assert mirror.run("load", str(tmp_path / "cut.json.gz")) == 7 and "get it again" in mirror.told
+    assert "Next:" in mirror.good("load", "--skip-bad-lines", str(dump))
+    assert mirror.run("load", str(dump)) == 2 and "reload" in mirror.told
+    assert mirror.run("ask", "Q42", "?", "?") == 2 and "angle brackets" in mirror.told
+    assert mirror.good("ask", "<http://www.wikidata.org/entity/Q1>", "?", "?").startswith("# ask 1: 5 triples\n")
+
+
+def test_a_lost_store_is_filled_anew(mirror: Mirror, tmp_path: pathlib.Path) -> None:
+    mirror.good("init", "--agent", "try/1.0 (nobody@example.org)")
+    dump = tmp_path / "dump.json"
+    dump.write_text('{"type":"item","id":"Q1","lastrevid":5,"modified":"2024-05-01T10:00:00Z","labels":{},"claims":{}}\n')
+    mirror.good("load", "--began", "2024-05-02T00:00:00Z", str(dump))
+    base = sqlite3.connect(mirror.home / "store.db")
+    base.execute("INSERT INTO triples VALUES ('<urn:a>', '<urn:b>', '<urn:c>')")
+    base.execute("DELETE FROM triples WHERE predicate LIKE '%version>'")
+    base.commit()
+    base.close()
+    assert mirror.run("verify") == 1
+    assert "only in the store: <urn:a> <urn:b> <urn:c> ." in mirror.said and "1 are missing" in mirror.said
+    assert mirror.run("verify", "--mend") == 0
+    mirror.good("verify")
+    (mirror.home / "store.db").unlink()
+    assert mirror.run("verify") == 4 and "reload" in mirror.told
+    mirror.good("reload")
+    mirror.good("verify")
+
+
+def test_a_backup_comes_back(mirror: Mirror, tmp_path: pathlib.Path) -> None:
+    mirror.good("init", "--agent", "try/1.0 (nobody@example.org)")
+    dump = tmp_path / "dump.json"
+    dump.write_text('{"type":"item","id":"Q1","lastrevid":5,"modified":"2024-05-01T10:00:00Z","labels":{},"claims":{}}\n')
+    mirror.good("load", "--began", "2024-05-02T00:00:00Z", str(dump))
+    mirror.good("backup", str(tmp_path / "backup.tar.gz"))
+    assert mirror.run("backup", str(tmp_path / "backup.tar.gz")) == 2
+    other = Mirror(tmp_path / "other")
+    assert "reload" in other.good("restore", str(tmp_path / "backup.tar.gz"))
+    other.good("reload")
+    other.good("verify")
+    (tmp_path / "cut.tar.gz").write_bytes((tmp_path / "backup.tar.gz").read_bytes()[:200])
+    assert Mirror(tmp_path / "third").run("restore", str(tmp_path / "cut.tar.gz")) == 4

@@ -1,0 +1,87 @@
+"""What would make a store wrong without a word is refused, and the message says what to do."""
+
+import shutil
+import urllib.request
+
+from conftest import Mirror, Wiki, settle, stored
+
+
+def test_a_step_without_counts(wiki: Wiki, mirror: Mirror, endpoint: str) -> None:
+    mirror.init(wiki, "--store", endpoint, "--counts").load(wiki)
+    mirror.set(counts=False)
+    assert mirror.run("step") == 4
+    assert "mirror.counts is false" in mirror.told and "set it back" in mirror.told
+    mirror.set(counts=True)
+    mirror.step()
+    mirror.good("verify")
+
+
+def test_another_graph(wiki: Wiki, mirror: Mirror, endpoint: str) -> None:
+    mirror.init(wiki, "--store", endpoint).load(wiki)
+    mirror.set(graph="urn:other")
+    assert mirror.run("step") == 4
+    assert "mirror.graph is urn:other" in mirror.told and "set it back" in mirror.told
+    assert urllib.request.urlopen(endpoint + "?graph=urn:other").read() == b""
+
+
+def test_a_store_that_was_filled_another_way(wiki: Wiki, mirror: Mirror, endpoint: str) -> None:
+    """The store itself knows its graph and counts, so another home that took over its identity is refused too."""
+    mirror.init(wiki, "--store", endpoint).load(wiki)
+    other = Mirror(mirror.home.parent / "other")
+    other.init(wiki, "--store", endpoint, "--graph", "urn:other")
+    assert other.run("load", "--began", wiki.began, wiki.dump) == 4
+    assert "another home" in other.told and "--clear" in other.told
+
+
+def test_another_home_with_as_many_records(wiki: Wiki, mirror: Mirror) -> None:
+    """Two copies of a home take batches that make as many records, and others: the store of one is refused by the other."""
+    page = '{"type":"item","id":"Q1","labels":{"en":{"language":"en","value":"%s"}},"claims":{}}'
+    mirror.init(wiki).load(wiki)
+    other = mirror.copy(mirror.home.parent / "other")
+    said = set()
+    for number, one in enumerate((mirror, other)):
+        (one.home / "pages/900000.json").write_text(page % f"label {number}")
+        events = one.home / "batch.jsonl"
+        events.write_text('{"kind":"edit","entity":"Q1","rev":900000,"time":"2024-05-02T00:00:00Z"}\n{"watermark":"2024-05-02T00:00:01Z"}\n')
+        said.add(one.good("step", str(events)))
+    assert len(said) == 1
+    shutil.copy(mirror.home / "store.db", other.home / "store.db")
+    before = stored(other.home)
+    assert other.run("step") == 4
+    assert "were others than this home's" in other.told and "wdq-mirror reload" in other.told
+    assert stored(other.home) == before
+    other.good("reload")
+    other.good("verify")
+
+
+def test_a_gap_in_the_stream(wiki: Wiki, mirror: Mirror) -> None:
+    mirror.init(wiki).load(wiki)
+    length = wiki.control()["end"]
+    first = length - 60
+    wiki.control(end=first)
+    mirror.step()
+    # What comes next is lost, deletions too; seconds of it alone.
+    wiki.control(oldest=first + 40, end=length)
+    wiki.control(is_down=0)
+    mirror.step()
+    assert "the stream has a gap" in mirror.told
+    assert "\ngap " not in mirror.good("status")
+    settle(mirror, wiki)
+
+
+def test_a_gap_that_the_wiki_does_not_mend(wiki: Wiki, mirror: Mirror) -> None:
+    mirror.init(wiki).load(wiki)
+    mirror.set(tries=1)
+    length = wiki.control()["end"]
+    wiki.control(end=length - 60)
+    mirror.step()
+    mirror.set(site="http://127.0.0.1:9")
+    wiki.control(oldest=length - 20, end=length)
+    assert mirror.run("step", "--idle", "1") == 5
+    assert "run wdq-mirror heal later" in mirror.told
+    assert "heal mends it" in mirror.good("status")
+    # A gap stops all later batches.
+    assert mirror.run("step", "--idle", "1") == 5
+    mirror.set(site=wiki.site, tries=6)
+    assert "gaps healed: 1" in mirror.good("heal")
+    assert "heal mends it" not in mirror.good("status")

@@ -1,0 +1,95 @@
+"""Makes pages and events of a JSON dump of Wikidata, as it is published: a list with one entity a line.
+
+Each entity's bytes are written as they stand, as the page of its `lastrevid`: a filter that read and printed them would respell numbers, and
+so change the names of nodes. A dump has no redirects.
+"""
+
+import bz2
+import collections
+import gzip
+import json
+import os
+import pathlib
+import sys
+import typing
+import zlib
+
+from .errors import BadInput, Unreachable, Usage
+from .event_lines import refusal_of
+from .progress import Progress
+from .settings import Settings
+from .stream import line_of
+
+KINDS = ("item", "property", "lexeme")
+
+
+def open_dump(name: str) -> typing.BinaryIO:
+    """A dump, unpacked by what its first bytes say."""
+    if name == "-":
+        return sys.stdin.buffer
+    try:
+        with open(name, "rb") as file:
+            magic = file.read(3)
+    except OSError as error:
+        raise Usage(f"the dump {name} can't be read: {error.strerror}") from None
+    opener: typing.Any = {b"\x1f\x8b": gzip.open, b"BZ": bz2.open}.get(magic[:2], open)
+    return opener(name, "rb")
+
+
+def read_entity(line: bytes) -> tuple[str, typing.Optional[dict[str, typing.Any]]]:
+    """The kind of an entity, and its edit; raises ValueError where a line is none."""
+    value = json.loads(line)
+    if not isinstance(value, dict) or not isinstance(value.get("id"), str):
+        raise ValueError("no entity")
+    if value.get("type") not in KINDS:
+        return str(value.get("type")), None
+    edit = {"kind": "edit", "entity": value["id"], "rev": value.get("lastrevid"), "time": value.get("modified")}
+    if refusal := refusal_of(json.dumps(edit).encode()):
+        raise ValueError(str(refusal))
+    return value["type"], edit
+
+
+def entities(name: str, settings: Settings, counts: collections.Counter[str]) -> typing.Iterator[tuple[dict[str, typing.Any], bytes]]:
+    """The edit and the bytes of each entity of a dump that belongs to this mirror; counts each kind, and names bad lines."""
+    try:
+        with open_dump(name) as lines, Progress("entities") as progress:
+            for number, line in enumerate(lines, 1):
+                line = line.strip().removesuffix(b",")
+                progress.show(number)
+                if line in (b"", b"[", b"]"):
+                    continue
+                try:
+                    kind, edit = read_entity(line)
+                except (ValueError, RecursionError) as error:
+                    print(f"wdq-mirror: {name}: line {number}: {error}", file=sys.stderr)
+                    counts["fault"] += 1
+                    continue
+                if edit and not settings.has(edit["entity"]):
+                    continue
+                counts[kind] += 1
+                if edit:
+                    yield edit, line
+    except (OSError, EOFError, zlib.error) as error:
+        raise BadInput(f"the dump {name} can't be read to its end ({error}): get it again") from None
+
+
+def load(name: str, pages: pathlib.Path, events: pathlib.Path, began: str, settings: Settings) -> collections.Counter[str]:
+    """Writes the pages and the events of a dump; says how many entities of each kind there were."""
+    counts: collections.Counter[str] = collections.Counter()
+    greatest = ""
+    try:
+        with open(events, "w", encoding="utf-8") as out:
+            for edit, line in entities(name, settings, counts):
+                part = pages / f".{edit['rev']}.json.part"
+                part.write_bytes(line)
+                part.replace(pages / f"{edit['rev']}.json")
+                print(line_of(edit), file=out)
+                greatest = max(greatest, edit["time"][:19])
+            mark = began or (greatest and greatest + "Z")
+            if mark:
+                print(line_of({"watermark": mark}), file=out)
+    except OSError as error:
+        raise Unreachable(f"{error.filename or events} can't be written: {error.strerror}: make room and load the dump again") from None
+    # The pages are on the disk before anything says so.
+    os.sync()
+    return counts

@@ -1,0 +1,184 @@
+"""Steps: a batch of events, from a file or from the stream, as an era of its own."""
+
+import asyncio
+import dataclasses
+import json
+import pathlib
+import sys
+import time
+import typing
+
+from . import eras, files, healing, sending, snapshot
+from .errors import BadInput, Usage
+from .event_lines import lines_of, refusal_of
+from .home import Era, Home
+from .pages import Pages
+from .program import Program
+from .stores import Store
+from .stream import Stream, is_gap, line_of
+from .times import now, text_of
+from .wiki import Wiki
+
+Event = dict[str, typing.Any]
+# Kinds of lines that `wdq patches` takes.
+KINDS = ("kind", "watermark", "mapping")
+
+
+@dataclasses.dataclass
+class Batch:
+    """Events of the stream, where they end, and the gap that was among them."""
+
+    lines: list[str]
+    place: str
+    seen: int
+    gap: typing.Optional[tuple[int, int]] = None
+
+
+@dataclasses.dataclass
+class Limits:
+    """When a batch of the stream ends."""
+
+    seconds: float = 60.0
+    events: int = 10_000
+    idle: float = 3.0
+
+
+class Tools:
+    """What a step works with."""
+
+    def __init__(self, home: Home, program: Program, store: Store, wiki: Wiki):
+        self.home, self.program, self.store, self.wiki = home, program, store, wiki
+        self.pages = Pages(home, wiki)
+
+
+def place_of(home: Home) -> tuple[str, int, str]:
+    """Where the stream goes on: the last message's place, the greatest time so far, and where to begin if there is no place."""
+    place, seen = home.fact("place") or "", int(home.fact("seen") or 0)
+    return place, seen, home.fact("since") or home.last_era().mark
+
+
+async def collect(home: Home, wiki: Wiki, limits: Limits) -> Batch:
+    """Reads the stream until it is at the present, or a limit is reached."""
+    place, seen, since = place_of(home)
+    stream = Stream(home.settings, wiki, place, since)
+    batch, begun, end = Batch([], place, seen), now(), time.monotonic() + limits.seconds
+    messages = stream.messages()
+    try:
+        while len(batch.lines) < limits.events and (rest := end - time.monotonic()) > 0:
+            try:
+                message, is_first = await asyncio.wait_for(messages.__anext__(), min(rest, limits.idle))
+            except asyncio.TimeoutError:
+                break
+            if is_first and batch.place and is_gap(batch.place, batch.seen, message, home.settings.wiki.silence_seconds):
+                batch.gap = (batch.seen, message.time)
+            batch.place, batch.seen = message.place or batch.place, max(batch.seen, message.time)
+            if message.event:
+                batch.lines.append(line_of(message.event))
+            if message.time >= begun:
+                break
+    finally:
+        await messages.aclose()
+    return batch
+
+
+def keep_batch(home: Home, number: int, front: list[Event], batch: Batch) -> None:
+    """Writes the events of an era, closed by a watermark, and then where the stream goes on."""
+    delay = home.settings.wiki.delay_seconds * 1_000_000
+    lines = [line_of(event) for event in front] + batch.lines
+    if batch.seen:
+        lines.append(line_of({"watermark": text_of(batch.seen - delay)}))
+    files.save(home.file("events", number), "".join(line + "\n" for line in lines).encode())
+    with home.transaction():
+        home.set_fact("place", batch.place)
+        home.set_fact("seen", str(batch.seen))
+        if batch.gap:
+            began, ended = batch.gap
+            home.add_gap(text_of(began - delay), text_of(ended + delay))
+
+
+def take_file(home: Home, number: int, front: list[Event], path: pathlib.Path) -> None:
+    """Writes the events of an era from an event file."""
+    lines = [line_of(event).encode() for event in front]
+    try:
+        with open(path, "rb") as file:
+            for index, line in enumerate(lines_of(file), 1):
+                if refusal := refusal_of(line):
+                    raise BadInput(f"{path}: line {index}: {refusal}; wdq-mirror explain {path} names all such lines")
+                event = json.loads(line)
+                if any(kind in event for kind in KINDS) and ("kind" not in event or home.settings.has(event["entity"])):
+                    lines.append(line)
+    except OSError as error:
+        raise Usage(f"{path} can't be read: {error.strerror}") from None
+    files.save(home.file("events", number), b"".join(line + b"\n" for line in lines))
+
+
+async def finish_open_era(tools: Tools) -> None:
+    """Runs the era whose events are there and which was cut short."""
+    number = tools.home.last_era().number + 1
+    if tools.home.file("events", number).exists():
+        await eras.run(tools.home, tools.program, tools.pages, number)
+
+
+async def heal(tools: Tools) -> int:
+    """Heals the gaps of the stream by the wiki's API, as an era of its own; says how many entities were asked for."""
+    home = tools.home
+    gaps = home.gaps()
+    if not gaps:
+        return 0
+    entities = await healing.changed_in_gaps(home, tools.wiki, gaps)
+    return await take_present(tools, entities, gaps)
+
+
+async def take_present(tools: Tools, entities: list[str], gaps: list[typing.Any]) -> int:
+    """Takes what each of these entities is now, as an era of its own, after which gaps are healed."""
+    home = tools.home
+    last = home.last_era()
+    held = snapshot.read(home.file("snapshots", last.number))
+    time_of_all = healing.just_after(held.mark)
+    events = healing.closed(await healing.reconciliations(tools.wiki, entities, time_of_all, held.greatest))
+    if events:
+        lines = [line_of(event) for event in events]
+        files.save(home.file("events", last.number + 1), "".join(line + "\n" for line in lines).encode())
+        await eras.run(home, tools.program, tools.pages, last.number + 1)
+    home.heal_gaps(gap.number for gap in gaps)
+    return len(entities)
+
+
+async def prepare(tools: Tools) -> None:
+    """What comes before new events: the store is the home's, and what was cut short is done."""
+    sending.check_marks(tools.home, await tools.store.marks())
+    await finish_open_era(tools)
+    await sending.update(tools.home, tools.store)
+
+
+async def heal_all(tools: Tools) -> int:
+    """Asks the wiki for each entity that the home holds; gaps are healed by that, but for entities that were made in them."""
+    held = snapshot.read(tools.home.file("snapshots", tools.home.last_era().number))
+    entities = set(held.records)
+    if tools.home.gaps():
+        entities |= set(await healing.changed_in_gaps(tools.home, tools.wiki, tools.home.gaps()))
+    return await take_present(tools, sorted(entities), tools.home.gaps())
+
+
+async def step(tools: Tools, path: typing.Optional[pathlib.Path], limits: Limits) -> Era:
+    """Takes the next batch as a whole."""
+    home = tools.home
+    await prepare(tools)
+    await heal(tools)
+    last = home.last_era()
+    held = snapshot.read(home.file("snapshots", last.number))
+    number = last.number + 1
+    front = await healing.try_to_settle(home, tools.wiki, held, number)
+    if path:
+        take_file(home, number, front, path)
+    else:
+        keep_batch(home, number, front, await collect(home, tools.wiki, limits))
+    era = await eras.run(home, tools.program, tools.pages, number)
+    await sending.update(home, tools.store)
+    if home.gaps():
+        print(f"wdq-mirror: the stream has a gap: {home.gaps()[0].began} to {home.gaps()[0].ended}; heals it", file=sys.stderr)
+        await heal(tools)
+        era = home.last_era()
+        await sending.update(home, tools.store)
+    eras.forget(home)
+    return era

@@ -1,0 +1,170 @@
+"""The embedded store: quads in an SQLite file, which rdflib asks in SPARQL. Each update is one transaction."""
+
+import asyncio
+import json
+import pathlib
+import sqlite3
+import typing
+
+from ..errors import Unreachable, Usage
+from ..home import Position
+from ..settings import Mirror
+from ..terms import LINE, Iri, Literal, Triple, read_triple
+from . import Marks, Row
+
+SCHEMA = """
+CREATE TABLE IF NOT EXISTS triples (subject TEXT, predicate TEXT, object TEXT, PRIMARY KEY (subject, predicate, object)) WITHOUT ROWID;
+CREATE INDEX IF NOT EXISTS by_predicate ON triples (predicate, object);
+CREATE INDEX IF NOT EXISTS by_object ON triples (object);
+CREATE TABLE IF NOT EXISTS marks (number INTEGER, digest TEXT, home TEXT, graph TEXT, counted INTEGER);
+"""
+AT_ONCE = 10_000
+
+
+def split(line: str) -> tuple[str, str, str]:
+    """The three terms of a line."""
+    subject, predicate, rest = line.split(" ", 2)
+    return subject, predicate, rest.removesuffix(" .")
+
+
+class EmbeddedStore:
+    """The store of one mirror."""
+
+    def __init__(self, path: pathlib.Path, mirror: Mirror):
+        self.path, self.mirror = path, mirror
+        try:
+            self.base = sqlite3.connect(path, isolation_level=None, check_same_thread=False, timeout=60)
+            self.base.execute("PRAGMA journal_mode = WAL")
+            self.base.executescript(SCHEMA)
+        except sqlite3.Error as error:
+            raise Unreachable(f"the store {path} can't be opened: {error}") from None
+
+    async def run(self, work: typing.Callable[[], typing.Any]) -> typing.Any:
+        """Does something in a thread, and says what failed."""
+        try:
+            return await asyncio.to_thread(work)
+        except sqlite3.Error as error:
+            raise Unreachable(f"the store {self.path} failed: {error}") from None
+
+    def transact(self, work: typing.Callable[[], None]) -> None:
+        """Does all of something or nothing."""
+        self.base.execute("BEGIN IMMEDIATE")
+        try:
+            work()
+        except BaseException:
+            self.base.execute("ROLLBACK")
+            raise
+        self.base.execute("COMMIT")
+
+    async def marks(self) -> typing.Optional[Marks]:
+        """What the store says of itself."""
+        row = await self.run(lambda: self.base.execute("SELECT number, digest, home, graph, counted FROM marks").fetchone())
+        return Marks(Position(row[0], row[1]), row[2], row[3], bool(row[4])) if row else None
+
+    def set_marks(self, marks: Marks) -> None:
+        """Writes the marks."""
+        self.base.execute("DELETE FROM marks")
+        self.base.execute("INSERT INTO marks VALUES (?, ?, ?, ?, ?)", (*marks.position, marks.home, marks.graph, marks.counted))
+
+    async def apply(self, removes: list[str], adds: list[str], marks: Marks) -> None:
+        """Removes and adds triples in one transaction."""
+
+        def work() -> None:
+            self.base.executemany("DELETE FROM triples WHERE subject = ? AND predicate = ? AND object = ?", map(split, removes))
+            self.base.executemany("INSERT OR IGNORE INTO triples VALUES (?, ?, ?)", map(split, adds))
+            self.set_marks(marks)
+
+        await self.run(lambda: self.transact(work))
+
+    async def load(self, path: pathlib.Path, marks: Marks) -> None:
+        """Loads a file in one transaction."""
+
+        def work() -> None:
+            self.base.execute("DELETE FROM triples")
+            with open(path, encoding="utf-8", newline="\n") as lines:
+                self.base.executemany("INSERT OR IGNORE INTO triples VALUES (?, ?, ?)", (split(line[:-1]) for line in lines))
+            self.set_marks(marks)
+
+        await self.run(lambda: self.transact(work))
+
+    async def count(self, predicate: str = "") -> int:
+        """How many triples there are, perhaps only those of a predicate."""
+        words = ("SELECT COUNT(*) FROM triples WHERE predicate = ?", (predicate,)) if predicate else ("SELECT COUNT(*) FROM triples",)
+        return (await self.run(lambda: self.base.execute(*words).fetchone()))[0]
+
+    async def triples_of(self, subjects: list[str], predicates: list[str]) -> tuple[list[Triple], int]:
+        """The triples of these subjects, and how many there are."""
+
+        def work() -> list[Triple]:
+            marks = ", ".join("?" * len(subjects))
+            names = [Iri(subject).sparql() for subject in subjects]
+            rows = self.base.execute(f"SELECT subject, predicate, object FROM triples WHERE subject IN ({marks})", names)
+            return [read_triple(" ".join(row) + " .") for row in rows]
+
+        found = await self.run(work)
+        found = [triple for triple in found if not predicates or triple.predicate.text in predicates]
+        return found, len(found)
+
+    async def subjects_after(self, last: str, most: int) -> list[str]:
+        """The next subjects in the order of their texts."""
+        words = "SELECT DISTINCT subject FROM triples WHERE subject > ? ORDER BY subject LIMIT ?"
+        rows = await self.run(lambda: self.base.execute(words, (f"<{last}>" if last else "", most)).fetchall())
+        return [row[0][1:-1] for row in rows]
+
+    def lines(self) -> typing.Iterator[str]:
+        """All triples in their order."""
+        for row in self.base.execute("SELECT subject, predicate, object FROM triples ORDER BY subject, predicate, object"):
+            yield " ".join(row) + " ."
+
+    async def select(self, query: str) -> list[Row]:
+        """The rows of a query, by rdflib."""
+        return await self.run(lambda: rows_of(self, query))
+
+    async def close(self) -> None:
+        """Closes the file."""
+        self.base.close()
+
+
+def rows_of(store: EmbeddedStore, query: str) -> list[Row]:
+    """Asks rdflib, over the SQLite file as a store of its own."""
+    try:
+        import rdflib
+        import rdflib.store
+    except ImportError:
+        raise Usage("questions in SPARQL to the embedded store need rdflib: apt-get install python3-rdflib") from None
+    rdflib.NORMALIZE_LITERALS = False
+
+    def term_of(text: str) -> typing.Any:
+        match = LINE.fullmatch(f"<s:> <p:> {text} .")
+        term = read_triple(match.group()).object if match else None
+        if term is None:
+            raise Unreachable(f"the store has {text!r}, which is no term")
+        if hasattr(term, "tag"):
+            return rdflib.Literal(term.text, lang=term.tag or None, datatype=term.datatype or None)
+        return rdflib.URIRef(term.text)
+
+    class Plugin(rdflib.store.Store):
+        """The triples of the file, as rdflib asks for them."""
+
+        def triples(self, pattern: typing.Any, context: typing.Any = None) -> typing.Iterator[typing.Any]:
+            names = ("subject", "predicate", "object")
+            wanted = {name: text_of(term) for name, term in zip(names, pattern) if term is not None}
+            where = " AND ".join(f"{name} = ?" for name in wanted) or "1"
+            found = store.base.execute(f"SELECT subject, predicate, object FROM triples WHERE {where}", list(wanted.values()))
+            for row in found.fetchall():
+                yield tuple(map(term_of, row)), None
+
+        def __len__(self, context: typing.Any = None) -> int:
+            return store.base.execute("SELECT COUNT(*) FROM triples").fetchone()[0]
+
+    def text_of(term: typing.Any) -> str:
+        if isinstance(term, rdflib.URIRef):
+            return Iri(str(term)).sparql()
+        return Literal(str(term), term.language or "", str(term.datatype or "")).sparql()
+
+    try:
+        answer = rdflib.Graph(store=Plugin()).query(query).serialize(format="json")
+    except Exception as fault:
+        raise Usage(f"rdflib doesn't answer the question: {type(fault).__name__}: {fault}") from None
+    value = json.loads(answer)
+    return value["results"]["bindings"] if "results" in value else [{"answer": {"type": "literal", "value": str(value["boolean"]).lower()}}]
