@@ -31,7 +31,7 @@ use Rattle.world.specs.Meaning.{meaning}
 use Rattle.text_output.specs.declared.write.Unwritten.{Unwritten}
 use Rattle.text_output.specs.Printing.{Output}
 use Rattle.patch_stream.specs.Stream.{Step, step, steps_due}
-use Rattle.session.specs.Counts.{SourceCounts, HasCounted, HasCountedUnapplied, HasGoneOn, RoseBy}
+use Rattle.session.specs.Moment.{SourceCounts, HasCounted, HasCountedUnapplied, HasGoneOn, RoseBy, Beginning, Environment, Stage, onward, environment, stage_in, with_mapped, with_world}
 use Rattle.session.specs.Course.{Course}
 use Rattle.graph_routes.specs.declared.routes.Route.{Route}
 use Rattle.session.specs.declared.report.Report.{Report}
@@ -40,9 +40,7 @@ use Rattle.session.specs.declared.stop.Halt.TheVariants.{Unapplied as NotApplied
 use Rattle.term_pool.specs.declared.fault.PoolFault.{PoolFault as StoreFault}
 use Rattle.term_pool.specs.declared.fault.PoolFault.TheVariants.{Full, OutOfMemory}
 use Rattle.revisions.specs.declared.revisions.Revisions.{Ghosts as RevisionsOf}
-use Rattle.session.specs.Moment.{Beginning, Environment, Stage, onward, environment, stage_in, with_mapped, with_world}
-use Rattle.session.specs.Needed.{HaveRoom, HaveRoomBefore, needed_by, needed_by_due, needed_for}
-use Rattle.session.specs.Remapping.{HasNoRoom, KeepsVersion, Mapped, held_triples, mapped_by, mapped_in}
+use Rattle.session.specs.Remapping.{HaveRoom, HaveRoomBefore, needed_by, needed_by_due, needed_for, HasNoRoom, KeepsVersion, Mapped, held_triples, mapped_by, mapped_in}
 use Rattle.session.specs.Report.{HasReported, HasReportedAt, TellsStepBy}
 use Rattle.session.specs.Taking.{AppliesDue, HoldsDocuments, IsFull, IsUnderWay, IsWithin, Leads, StaysWithin, judgement, replies_there}
 use Rattle.session.proofs.Needed.{due-some, next_met, room_replied}

@@ -4,8 +4,13 @@ use Rattle.wq_io.specs.declared.source.Source.{Ghosts as SourceOf}
 use Rattle.wq_io.specs.declared.sink.Sink.{Ghosts as SinkOf}
 use Rattle.revisions.specs.declared.revisions.Revisions.{Ghosts as RevisionsOf}
 use Rattle.session.specs.declared.ports.Ports.{Ports}
-use Rattle.session.specs.Counts.{HasGoneOn, HasReadOn, HasWrittenOn, HaveGoneOn}
+use Rattle.session.specs.Moment.{HasGoneOn, HasReadOn, HasWrittenOn, HaveGoneOn}
+use Rattle.session.specs.Moved.{GoesOn, Moved}
 use Rattle.session.proofs.Due.{gone-on}
+
+-- a replay goes on, and then further
+pub goes_on : (old middle now : Moved) → GoesOn old middle → GoesOn middle now → GoesOn old now
+goes_on old middle now first then = record { limit = then.limit ∙ first.limit; routes = then.routes ∙ first.routes; earlier = then.earlier ∙ first.earlier }
 
 module _ {S R K F : Type 0} (input : SourceOf S) (source : RevisionsOf R) (sink : SinkOf K) (file : SinkOf F) where
   -- nothing was asked yet

@@ -15,8 +15,7 @@ use Rattle.session.specs.declared.report.Report.{Report}
 use Rattle.session.specs.declared.report.Report.TheVariants.{Answers, Changes}
 use Rattle.session.specs.declared.stop.Halt.{Halt}
 use Rattle.session.specs.declared.stop.Halt.TheVariants.{Unapplied, Unprinted}
-use Rattle.session.specs.Along.{stream_text_from}
-use Rattle.session.specs.Course.{Course}
+use Rattle.session.specs.Course.{stream_text_from, Course}
 use Rattle.session.specs.Moment.{Beginning, Stage}
 
 -- whether an application and a remapping tell their change
@@ -83,6 +82,11 @@ AnswersQuestion Answers reported question text old new (Ok now) = (now ≡ repor
 AnswersQuestion Answers reported question text old new (Err why) = Prints text old new (Err why)
 AnswersQuestion Changes reported question text old new (Ok now) = (now ≡ reported) × (new ≡ old)
 AnswersQuestion Changes reported question text old new (Err why) = ⊥
+
+-- if questions are answered, this text is printed at the end
+abbrev pub PrintsClosing : Report → List ℕ → Output → Output → Result (Unit {0}) Unwritten → Type 0
+PrintsClosing Answers text old new result = Prints text old new result
+PrintsClosing Changes text old new result = (result ≡ Ok tt) × (new ≡ old)
 
 -- ---- steps that are told
 

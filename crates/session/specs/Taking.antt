@@ -17,7 +17,7 @@ use Rattle.replay_model.specs.ReplayState.{ReplayState, after_some, entered, fet
 use Rattle.replay_model.specs.Explained.{AgreeOnApplied, Explained, is_applied, is_fetching, revision_wanted}
 use Rattle.replay_model.specs.Transcript.{Question, asking, matches}
 use Rattle.text_output.specs.declared.write.Unwritten.{Unwritten}
-use Rattle.text_output.specs.declared.write.Unwritten.TheVariants.{WriteFault, OutOfMemory as NoMemory}
+use Rattle.text_output.specs.declared.write.Unwritten.TheVariants.{WriteFault, OutOfMemory as UnwrittenOutOfMemory}
 use Rattle.text_output.specs.Printing.{IsCutShort, Output}
 use Rattle.patch_stream.specs.Stream.{Step, steps_anew}
 use Rattle.session.specs.declared.stop.Stop.{Stop}
@@ -26,12 +26,9 @@ use Rattle.session.specs.declared.report.Report.TheVariants.{Answers}
 use Rattle.session.specs.declared.stop.Halt.{Halt}
 use Rattle.session.specs.declared.stop.Halt.TheVariants.{Unapplied, Unprinted}
 use Rattle.term_pool.specs.declared.fault.PoolFault.TheVariants.{Full, OutOfMemory}
-use Rattle.session.specs.Answering.{answer_held}
-use Rattle.session.specs.Counts.{HasCounted, HasCountedAt}
-use Rattle.session.specs.Course.{Course, course_after, course_begun, course_to_end, led_to, version_at}
-use Rattle.session.specs.Moment.{Beginning, Environment, Stage}
-use Rattle.session.specs.Needed.{HaveRoomBefore, needed_anew, needed_by_due}
-use Rattle.session.specs.Remapping.{HasNoRoom, IsLeftStale, KeepsVersion, Mapped, mapped_by, remapped_some}
+use Rattle.session.specs.Course.{answer_held, Course, course_after, course_begun, course_to_end, led_to, version_at}
+use Rattle.session.specs.Moment.{HasCounted, HasCountedAt, Beginning, Environment, Stage}
+use Rattle.session.specs.Remapping.{HaveRoomBefore, needed_anew, needed_by_due, HasNoRoom, IsLeftStale, KeepsVersion, Mapped, mapped_by, remapped_some}
 use Rattle.session.specs.Report.{BreaksOffBy, HasAnswered, HasReported, HasReportedAt, TellsBy}
 use Rattle.session.specs.Stop.{stop_of_halt, stop_of_unwritten}
 
@@ -144,7 +141,7 @@ abbrev pub IsHeldUp : Halt → Environment → Output → Stage → Type 0
 IsHeldUp (Unapplied Full) environment old now = IsFull environment now.world now.mapped
 IsHeldUp (Unapplied OutOfMemory) environment old now = ⊤
 IsHeldUp (Unprinted WriteFault) environment old now = Rose old.faults now.output.faults
-IsHeldUp (Unprinted NoMemory) environment old now = ⊤
+IsHeldUp (Unprinted UnwrittenOutOfMemory) environment old now = ⊤
 
 -- a due event wasn't applied, or not told: if the world was under way in a play, by whose version every page was mapped, it still is
 abbrev pub StaysWithin : Halt → Environment → ℕ → Stage → Stage → Type 0
@@ -205,7 +202,7 @@ pub record TakesInPart (halt : Halt) (environment : Environment) (t : Turn) (bef
 abbrev pub IsLeft : Halt → ℕ → Records → Mapped → Output → Output → Type 0
 IsLeft (Unapplied why) limit records now old new = IsLeftStale why limit records now
 IsLeft (Unprinted WriteFault) limit records now old new = Rose old.faults new.faults
-IsLeft (Unprinted NoMemory) limit records now old new = ⊤
+IsLeft (Unprinted UnwrittenOutOfMemory) limit records now old new = ⊤
 
 -- the records of the remapped pages were written after so many, but for the last one if that is why
 abbrev pub TellsPages : Halt → Report → ℕ → List Step → Output → Output → Type 0
