@@ -36,9 +36,10 @@ use Rattle.session.specs.declared.stop.Stop.TheVariants.{OutOfMemory}
 use Rattle.term_pool.specs.declared.fault.PoolFault.TheVariants.{OutOfMemory as StoreOutOfMemory}
 use Rattle.session.specs.Course.{along, state_along, steps_of_delivery, answer_by, answer_held, answer_of_delivery, answer_text, said_by, Course, course_after, course_begun, course_remapping, course_to_end, led_to, said_behind, version_at}
 use Rattle.session.specs.Remapping.{HaveRoom, HaveRoomBefore, needed_anew, needed_of_delivery, needed_by_due, KeepsVersion, Mapped, mapped_by}
-use Rattle.session.specs.Report.{AnswersQuestion, HasAnswered, HasReported, TellsBy}
+use Rattle.session.specs.Report.{HasReported}
 use Rattle.session.specs.Stop.{stop_of_halt, stop_of_unwritten}
-use Rattle.session.specs.Taking.{AppliesDue, AtEnd, AtRest, CutsOff, IsHeldUp, IsWithin, Leads, RemapsPages, StaysWithin, judgement, turn}
+use Rattle.session.specs.Taking.{IsWithin, judgement}
+use Rattle.session.specs.Delivering.{AnswersQuestion, HasAnswered, TellsBy, AppliesDue, AtEnd, AtRest, CutsOff, IsHeldUp, Leads, RemapsPages, StaysWithin, turn}
 use Rattle.session.proofs.Due.{no_call, within}
 use Rattle.session.proofs.Along.{along-push, along-still, asked-along, asks-push, matched-along, version-along, version-push}
 use Rattle.session.proofs.Answers.{answer_held_by}

@@ -37,7 +37,8 @@ use Rattle.session.specs.Course.{Course, course_after, course_begun, course_to_e
 use Rattle.session.specs.DrillPlaying.{HasTakenFirst, LeavesDrill, drill_environment, drill_stage, told_of}
 use Rattle.session.specs.Remapping.{HasNoRoom, KeepsVersion, Mapped, mapped_by, mapped_in}
 use Rattle.session.specs.Stop.{stop_of_halt}
-use Rattle.session.specs.Taking.{AppliesDue, AtEnd, AtRest, CutsOff, IsFull, IsHeldUp, IsUntaken, IsWithin, Leads, StaysWithin, TakesDelivery, TakesInPart, judgement, replies_there, turn}
+use Rattle.session.specs.Taking.{IsFull, IsWithin, judgement, replies_there}
+use Rattle.session.specs.Delivering.{AppliesDue, AtEnd, AtRest, CutsOff, IsHeldUp, IsUntaken, Leads, StaysWithin, TakesDelivery, TakesInPart, turn}
 use Rattle.session.proofs.Along.{asks-push, matches-push}
 use Rattle.session.proofs.Deliveries.{end_begun, end_taken}
 use Rattle.session.proofs.Ends.{is_played, none_named_first}

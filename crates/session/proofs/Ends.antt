@@ -28,10 +28,10 @@ use Rattle.text_output.specs.Printing.{Output, Prints}
 use Rattle.patch_stream.specs.Stream.{changes}
 use Rattle.session.specs.Moment.{RoseBy, HasCounted, Beginning, IsFirst, Moment, Run, Environment, Stage, horizon_at, start_of, with_output, sections_of, numbers_after, numbers_of}
 use Rattle.session.specs.Course.{Course, course_after, course_ended, course_to_end, version_at, closing_by, closing_held}
-use Rattle.session.specs.Headline.{BrokenOff, HasFates, HasReplayed, HasTakenAll, HoldsRightly, IsInterrupted, IsPlayed, IsReplayed, NamesRightly, StandsAtMapping, StandsAtPage, Stopped, HasTaken, IsHalted}
+use Rattle.session.specs.Headline.{BrokenOff, HasFates, HasReplayed, HoldsRightly, IsInterrupted, IsPlayed, IsReplayed, NamesRightly, StandsAtMapping, StandsAtPage, Stopped, IsHalted}
 use Rattle.session.specs.Reading.{AreDeliveries}
 use Rattle.session.specs.Remapping.{IsLeftStale, Mapped, mapped_by}
-use Rattle.session.specs.Report.{HasAnswered, HasReported}
+use Rattle.session.specs.Report.{HasReported}
 use Rattle.checkpoint.specs.declared.numbers.Numbers.{Numbers}
 use Rattle.session.specs.Stop.{stop_of_halt, stop_of_unapplied, stop_of_unwritten}
 use Rattle.graph_routes.specs.declared.routes.Route.{Route}
@@ -42,7 +42,8 @@ use Rattle.session.specs.declared.stop.Halt.{Halt}
 use Rattle.session.specs.declared.stop.Halt.TheVariants.{Unapplied as NotApplied, Unprinted}
 use Rattle.term_pool.specs.declared.fault.PoolFault.{PoolFault as StoreFault}
 use Rattle.term_pool.specs.declared.fault.PoolFault.TheVariants.{Full as NoRoom, OutOfMemory as StoreOutOfMemory}
-use Rattle.session.specs.Taking.{AtEnd, HoldsDocuments, IsHeldUp, IsLeft, Leads, judgement, replies_there}
+use Rattle.session.specs.Taking.{HoldsDocuments, judgement, replies_there}
+use Rattle.session.specs.Delivering.{HasTakenAll, HasTaken, HasAnswered, AtEnd, IsHeldUp, IsLeft, Leads}
 use Rattle.words.specs.Options.{closes, max_bytes_of}
 use Rattle.session.proofs.FromNothing.{ended_first, led_first}
 use Rattle.session.proofs.Needed.{all_met, due-none}

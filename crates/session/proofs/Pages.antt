@@ -20,8 +20,7 @@ use Rattle.session.specs.declared.report.Report.TheVariants.{Answers, Changes}
 use Rattle.session.specs.declared.stop.Halt.TheVariants.{Unapplied as NotApplied, Unprinted}
 use Rattle.term_pool.specs.declared.fault.PoolFault.{PoolFault as StoreFault}
 use Rattle.session.specs.Remapping.{IsLeftStale, mapped_in}
-use Rattle.session.specs.Report.{TellsBy, TellsStepBy}
-use Rattle.session.specs.Taking.{IsLeft, RemapsPages}
+use Rattle.session.specs.Delivering.{TellsBy, TellsStepBy, IsLeft, RemapsPages}
 use Rattle.session.proofs.Needed.{stale_after}
 use Rattle.session.proofs.Reports.{tells_but_last, tells_next, tells_none}
 use Rattle.session.proofs.Versions.{Remaps, remaps_roomed}

@@ -16,13 +16,14 @@ use Rattle.checkpoint.specs.declared.numbers.Numbers.{Numbers}
 use Rattle.replay_model.specs.Versions.{meaning_by}
 use Rattle.world.specs.Meaning.{meaning}
 use Rattle.session.specs.Course.{closing_by, closing_held, said_by, Course, course_ended, course_printed, version_at}
-use Rattle.session.specs.Headline.{Ending, HasPrinted, HasTakenAll, IsFunction, IsReplayed, LeavesSnapshot, Stopped, Unsaved, course_of}
+use Rattle.session.specs.Headline.{Ending, HasPrinted, IsFunction, IsReplayed, LeavesSnapshot, Stopped, Unsaved, course_of}
 use Rattle.session.specs.Moment.{Beginning, IsFirst, Moment, Run, Environment, Stage, standing, start_of, with_output, sections_of, HasSaved, numbers_of, snapshot_text}
-use Rattle.session.specs.Report.{PrintsClosing, bytes_of}
+use Rattle.session.specs.Report.{bytes_of}
 use Rattle.session.specs.Stop.{MayLeavePart, stop_of_unwritten}
 use Rattle.session.specs.declared.report.Report.{Report}
 use Rattle.session.specs.declared.report.Report.TheVariants.{Answers, Changes}
 use Rattle.session.specs.Taking.{judgement, replies_there}
+use Rattle.session.specs.Delivering.{HasTakenAll, PrintsClosing}
 use Rattle.words.specs.Options.{closes}
 use Rattle.session.proofs.Ends.{broken_off, none_failed, none_named_first, prints_asked}
 

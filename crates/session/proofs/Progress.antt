@@ -39,13 +39,14 @@ use Rattle.session.specs.declared.stop.Stop.{Stop}
 use Rattle.session.specs.declared.stop.Stop.TheVariants.{BadLine, OutOfMemory}
 use Rattle.term_pool.specs.declared.fault.PoolFault.TheVariants.{Full as NoRoom, OutOfMemory as StoreOutOfMemory}
 use Rattle.session.specs.Moment.{SourceCounts, no_numbers, Beginning, Moment, Run, Environment, Stage, onward, standing, start_in, start_of, with_mapped, with_output}
-use Rattle.session.specs.Headline.{IsPlayed, IsPlayedAfter, StandsAtPage, StandsAtQuestion, Stopped, HasTaken, StopsWithin}
+use Rattle.session.specs.Headline.{IsPlayed, IsPlayedAfter, StandsAtPage, StandsAtQuestion, Stopped, StopsWithin}
 use Rattle.following.specs.Input.{Input}
 use Rattle.session.specs.Remapping.{HaveRoomBefore, needed_anew, IsLeftStale, Mapped, mapped_by, remapped_some}
 use Rattle.session.specs.Reading.{AreFirst, AreFirstAlone, HasRead, TakesByNeed}
-use Rattle.session.specs.Report.{BreaksOffBy, HasAnswered, HasNumberLeft, HasReported, TellsBy, reported_before}
+use Rattle.session.specs.Report.{HasReported}
 use Rattle.session.specs.Stop.{stop_of_fault, stop_of_halt}
-use Rattle.session.specs.Taking.{AnswersInPart, AtRest, CutsOff, IsStanding, IsUntaken, IsWithin, RemapsInPart, RemapsPages, TakesDelivery, TakesInPart, judgement, turn}
+use Rattle.session.specs.Taking.{IsStanding, IsWithin, judgement}
+use Rattle.session.specs.Delivering.{HasTaken, BreaksOffBy, HasAnswered, HasNumberLeft, TellsBy, reported_before, AnswersInPart, AtRest, CutsOff, IsUntaken, RemapsInPart, RemapsPages, TakesDelivery, TakesInPart, turn}
 use Rattle.words.specs.Options.{max_bytes_of}
 use Rattle.session.proofs.Along.{asks-push, matches-push}
 use Rattle.session.proofs.Explaining.{explained_first}
@@ -111,11 +112,6 @@ one_match (Watermark w) = omega arith
 one_match (Ask q) = omega arith
 one_match (Mapping v) = omega arith
 one_match (Match q) = omega arith
-
--- the count of matches goes on
-pub match_counted : (numbered : Numbers) (matched : ℕ) (d : Delivery) (reader : Reading) {limit : ℕ} → numbered.matches ≤ 2 ^ 63 → matched ≤ numbered.matches + reader.given → IsSound reader → HasLimits limit reader → limit ≤ 2 ^ 40 →
-    matched + matches (d ∷ []) < 2 ^ 64
-match_counted numbered matched d reader few_matches few sound limits bounded = omega (arith, few_matches, few, one_match d, sound.counted, sound.bounded, sound.within, limits.bytes, bounded)
 
 -- before the first delivery a world that stands between two is at rest
 pub nothing_taken_from : (environment : Environment) (numbered : Numbers) (s : Stage) → IsStanding s.world s.mapped → AtRest environment [] (reported_before environment.report numbered) (start_in numbered s) s

@@ -29,8 +29,8 @@ use Rattle.session.specs.declared.report.Report.TheVariants.{Answers, Changes}
 use Rattle.session.specs.declared.stop.Halt.TheVariants.{Unprinted}
 use Rattle.session.specs.Course.{along, state_along, steps_of_delivery, stream_text_from, version_since, Course}
 use Rattle.session.specs.Moment.{Beginning, Environment, Stage}
-use Rattle.session.specs.Report.{BreaksOffBy, HasReported, HasReportedAt, TellsBy, TellsStepBy, bytes_of}
-use Rattle.session.specs.Taking.{IsHeldUp}
+use Rattle.session.specs.Report.{HasReported, HasReportedAt, bytes_of}
+use Rattle.session.specs.Delivering.{BreaksOffBy, TellsBy, TellsStepBy, IsHeldUp}
 use Rattle.session.proofs.Along.{along-push, version-along}
 
 -- ---- due events

@@ -39,11 +39,6 @@ pub keeps-further : (old between new : WorldState) → KeepsVersion (mapped_in o
     KeepsVersion (mapped_in between) (mapped_in new) between.replay.played.records new.replay.played.records → KeepsVersion (mapped_in old) (mapped_in new) old.replay.played.records new.replay.played.records
 keeps-further old between new first by_two version is = by_two version (first version is)
 
--- and by a step that changes nothing
-pub keeps-still : (old between new : WorldState) → new ≡ between → KeepsVersion (mapped_in old) (mapped_in between) old.replay.played.records between.replay.played.records →
-    KeepsVersion (mapped_in old) (mapped_in new) old.replay.played.records new.replay.played.records
-keeps-still old between new same keeps = rw same keeps
-
 -- where there are some, there is a first
 pub first_there : {A : Type 0} (P : Type 0) (xs : List A) (o : Option A) → 0 < length xs → o ≡ first_of xs → IfSome o (λ _. P) → P
 first_there P [] o some is given = absurd (omega (arith, some))

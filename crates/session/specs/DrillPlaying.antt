@@ -12,7 +12,7 @@ use Rattle.session.specs.declared.drill_playing.DrillRun.{DrillRun}
 use Rattle.session.specs.declared.report.Report.TheVariants.{Answers}
 use Rattle.session.specs.Moment.{Beginning, Environment, IsFirst, Stage}
 use Rattle.session.specs.Remapping.{mapped_in}
-use Rattle.session.specs.Taking.{AtRest}
+use Rattle.session.specs.Delivering.{AtRest}
 
 -- what the pages of a drill tell, the same in every folder
 abbrev pub told_of : ℕ → Option Contents

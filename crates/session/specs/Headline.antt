@@ -40,18 +40,9 @@ use Rattle.session.specs.Remapping.{HaveRoom, HaveRoomBefore, needed_anew, IsFul
 use Rattle.session.specs.Reading.{AreDeliveries, AreFirstAlone, AreWhole, IsPastLimit, IsRefusedLine, TakesByNeed, AreFirst}
 use Rattle.session.specs.Report.{bytes_of}
 use Rattle.session.specs.Stop.{stop_of_unwritten}
-use Rattle.session.specs.Taking.{HoldsDocuments, IsFull, judgement, replies_there, AtRest, IsEventOrMark, IsWithin, entered_perhaps}
+use Rattle.session.specs.Taking.{HoldsDocuments, IsFull, judgement, replies_there, IsEventOrMark, IsWithin, entered_if_any}
 use Rattle.std.specs.Option.{option_to_list}
 use Rattle.session.specs.declared.stop.Halt.{Halt}
-
--- the whole input was read, and all lines were taken; so many asks were answered or records written, and so many matches were delivered,
--- with those of earlier runs
-pub record HasTaken (run : Run) (reported matched : ℕ) (before now : Moment) : Type 0 where
-  pub deliveries : List Delivery
-  pub read : IsAtEnd now.input.left
-  pub are : IfSome before.input.left (λ bytes. AreDeliveries (max_bytes_of run.choices) bytes deliveries)
-  pub at_rest : AtRest run.environment deliveries reported (start_of run before) now.stage
-  pub matched_are : matched ≡ run.numbered.matches + matches deliveries
 
 -- at a line: the world of the first lines of what was taken, of which the last is perhaps an event, or a watermark with some of the events
 -- that it makes due, behind which no byte was judged; every page is mapped by the version in force
@@ -59,7 +50,7 @@ pub record StopsWithin (halt : Halt) (run : Run) (before now : Moment) : Type 0 
   pub deliveries : List Delivery
   pub last : Option Delivery
   pub kind : IfSome last IsEventOrMark
-  pub within : IsWithin halt run.environment (course_begun run.environment.routes deliveries last (start_of run before)) (λ replies. entered_perhaps (led_to deliveries (start_of run before) replies) last) (start_of run before) now.stage
+  pub within : IsWithin halt run.environment (course_begun run.environment.routes deliveries last (start_of run before)) (λ replies. entered_if_any (led_to deliveries (start_of run before) replies) last) (start_of run before) now.stage
   pub mapped : now.stage.mapped ≡ mapped_by (version_at deliveries (start_of run before)) now.stage.world.played.records
   pub first : AreFirst (max_bytes_of run.choices) before.input.left now.input.left (deliveries ++ option_to_list last)
   pub alone : (d : Delivery) → last ≡ Some d → first.part ≡ []
@@ -157,12 +148,6 @@ pub record Replayed (run : Run) (course : List Delivery → Beginning → Course
 -- nothing else
 abbrev pub HasReplayed : Run → Moment → Moment → Type 0
 HasReplayed run before now = Replayed run (course_ended run.environment.routes (closes run.choices)) before now
-
--- the same, and where the world is saved, these are the counts of what was reported
-pub record HasTakenAll (run : Run) (numbers : Numbers) (before now : Moment) : Type 0 where
-  pub replayed : HasReplayed run before now
-  pub counted : closes run.choices ≡ false →
-      numbers ≡ numbers_of run.environment.report (course_ended run.environment.routes (closes run.choices) replayed.deliveries (start_of run before)).steps replayed.deliveries (start_of run before) replayed.replay.played.replies
 
 -- the play of these deliveries that a run makes, with the sections that it prints
 abbrev pub course_of : Run → List Delivery → Beginning → Course

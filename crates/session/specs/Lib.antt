@@ -1,4 +1,5 @@
 pub mod Course
+pub mod Delivering
 pub mod DrillPlaying
 pub mod Headline
 pub mod Moment

@@ -10,11 +10,9 @@ use Rattle.checkpoint.specs.Causes.{HasCause}
 use Rattle.checkpoint.specs.Saved.{AreWithin, saved_of, world_of}
 use Rattle.following.specs.Input.{Input}
 use Rattle.words.specs.Options.{Choices, max_terms_of}
-use Rattle.graph_routes.specs.declared.routes.Route.{Route}
 use Rattle.session.specs.declared.stop.Stop.{Stop}
 use Rattle.session.specs.Headline.{ReplayEnding}
 use Rattle.session.specs.Moment.{Moment, Run, behind, stage_in, world_at_start}
-use Rattle.session.specs.Moved.{Moved}
 use Rattle.session.specs.Remapping.{HoldsWithin, mapped_in}
 use Rattle.session.specs.Stop.{stop_of_load}
 use Rattle.session.specs.Taking.{IsStanding}
@@ -72,18 +70,3 @@ ResumeEnding stopped run before now = IsNotResumed stopped run before now ⊎ Is
 pub record RunEnding (stopped : Option Stop) (run : Run) (before now : Moment) : Type 0 where
   pub begun : run.choices.resume ≡ None → ReplayEnding stopped run (record before { stage = stage_in before.stage.output before.stage.counts (world_at_start run.choices) }) now
   pub resumed : IsSome run.choices.resume → ResumeEnding stopped run before now
-
--- ---- a replay that is started
-
--- what a replay begins with that goes on from a snapshot, of which this is left
-pub record IsLoaded (choices : Choices) (left rest : Option (List ℕ)) (routes : Option (List Route)) (replay : Moved) : Type 0 where
-  pub loaded : IsSnapshotOf left (max_terms_of choices) replay.world replay.earlier
-  pub allowed : AllowsHorizon choices replay.world.replay.buffer.horizon
-  pub routes_are : replay.routes ≡ routes
-  pub read : IsAtEnd rest
-
--- no replay goes on from the snapshot, for a cause
-pub record IsUnloaded (stop : Stop) (choices : Choices) (left : Option (List ℕ)) (before now : ℕ) : Type 0 where
-  pub fault : LoadFault
-  pub is : stop ≡ stop_of_load fault
-  pub cause : IsRefusedFor fault choices left before now

@@ -7,7 +7,7 @@ ghost use Rattle.world.specs.{Changing.Tells, Meaning.meaning};
 ghost use Rattle.text_output.specs.Printing.{Prints, output};
 ghost use Rattle.patch_stream.specs.Stream.{step};
 ghost use Rattle.session.specs.{Course.answer_text, Moment.HasWrittenOn};
-ghost use Rattle.session.specs.Report.{AnswersQuestion, HasNumberLeft, TellsStepBy, telling_of};
+ghost use Rattle.session.specs.Delivering.{AnswersQuestion, HasNumberLeft, TellsStepBy, telling_of};
 
 use crate::replay::Replay;
 use crate::report::Report;

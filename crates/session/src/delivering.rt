@@ -6,8 +6,8 @@ ghost use Rattle.replay_model.specs.{ReplayState.after_end, Transcript.question_
 ghost use Rattle.text_output.specs.Printing.{output};
 ghost use Rattle.session.specs.{declared.report.Report.TheVariants.Answers, Moment.HasGoneOn, Moment.HasWrittenOn};
 ghost use Rattle.session.specs.{Moment.stage, Moment.with_world, Moved.environment_in};
-ghost use Rattle.session.specs.{Moved.GoesOn, Remapping.KeepsVersion, Remapping.mapped_in, Report.HasNumberLeft};
-ghost use Rattle.session.specs.Taking.{AppliesDue, CutsOff, IsHeldUp, StaysWithin, TakesDelivery, turn};
+ghost use Rattle.session.specs.{Moved.GoesOn, Remapping.KeepsVersion, Remapping.mapped_in, Delivering.HasNumberLeft};
+ghost use Rattle.session.specs.Delivering.{AppliesDue, CutsOff, IsHeldUp, StaysWithin, TakesDelivery, turn};
 
 use crate::context::{Context, Incoming};
 use crate::remapping::take_mapping;

@@ -16,8 +16,8 @@ use words::FollowOptions;
 use world::World;
 use wq_io::{Sink, Source};
 
-/// For how many terms the world has room, which holds none.
-const ROOM: u32 = 20_000_000;
+/// The limit of a follower's world, which holds nothing.
+const LIMIT: u32 = 20_000_000;
 
 // Follows the records of the input. Nothing is fetched, and the world stays empty.
 pub fn follow_records<S: Source, R: Revisions, K: Sink, F: Sink>(
@@ -37,7 +37,7 @@ pub fn follow_records<S: Source, R: Revisions, K: Sink, F: Sink>(
     ensures further { HaveGoneOn S.Source R.Revisions K.Sink F.Sink ports.old ports.new }
 {
     let mut world = world;
-    world.set_room(ROOM);
+    world.set_room(LIMIT);
     match follow(alloc, keys, options, &mut ports.events, &mut ports.out) {
         Ok(()) => (Status::Ok, world),
         Err(why) => (Stop::from(why).status(), world),

@@ -6,7 +6,7 @@ ghost use Rattle.drill_replay.specs.Playing.{IsByFirst};
 ghost use Rattle.text_output.specs.Printing.{output};
 ghost use Rattle.patch_stream.specs.Stream.{steps_anew};
 ghost use Rattle.session.specs.{declared.report.Report.TheVariants.Answers, Moment.HasWrittenOn, Remapping.HaveRoom, Remapping.needed_anew};
-ghost use Rattle.session.specs.{Moved.GoesOn, Remapping.mapped_by, Remapping.mapped_in, Report.TellsBy, Taking.RemapsPages};
+ghost use Rattle.session.specs.{Moved.GoesOn, Remapping.mapped_by, Remapping.mapped_in, Delivering.TellsBy, Delivering.RemapsPages};
 
 use crate::context::Context;
 use crate::replay::Replay;

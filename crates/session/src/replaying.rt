@@ -5,7 +5,7 @@ ghost use Rattle.replay_model.specs.{ReplayState.nothing_delivered, Versions.mea
 ghost use Rattle.text_output.specs.Printing.{Prints, output};
 ghost use Rattle.session.specs.{Course.closing_held, Moment.HasWrittenOn, Moment.HaveGoneOn, Headline.ReplayEnding, Resuming.RunEnding};
 ghost use Rattle.session.specs.{Moment.moment, Moment.run_of, Moved.GoesOn, Moved.run_in, Remapping.HoldsWithin, Remapping.mapped_in};
-ghost use Rattle.session.specs.{Report.PrintsClosing, Moment.sections_of, Stop.MayLeavePart, Stop.stop_in, Stop.stop_of, Taking.IsStanding};
+ghost use Rattle.session.specs.{Delivering.PrintsClosing, Moment.sections_of, Stop.MayLeavePart, Stop.stop_in, Stop.stop_of, Taking.IsStanding};
 ghost use Rattle.transcript.specs.Sections.{chosen};
 ghost use Rattle.words.specs.Options.{closes, max_terms_of};
 ghost use Rattle.world.specs.Meaning.{meaning};

@@ -9,7 +9,8 @@ ghost use Rattle.words.specs.Options.{max_terms_of};
 ghost use Rattle.wq_io.specs.Streams.{IsAtEnd};
 ghost use Rattle.session.specs.{Moment.HasReadOn, Moment.world_at_start, Moment.no_numbers, Moved.moved};
 ghost use Rattle.session.specs.Remapping.{HoldsWithin, mapped_in};
-ghost use Rattle.session.specs.Resuming.{AllowsHorizon, IsLoaded, IsRefusedFor, IsUnloaded};
+ghost use Rattle.session.specs.Resuming.{AllowsHorizon, IsRefusedFor};
+ghost use Rattle.session.specs.Delivering.{IsLoaded, IsUnloaded};
 ghost use Rattle.session.specs.Taking.{IsStanding};
 
 use crate::remapping::begin_by_first;

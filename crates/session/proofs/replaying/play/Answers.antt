@@ -4,9 +4,10 @@ use Rattle.std.proofs.lemmas.Result.{err_from_is_err_and}
 use Rattle.text_output.specs.Printing.{output}
 use Rattle.following.specs.Input.{input}
 use Rattle.checkpoint.specs.declared.numbers.Numbers.{Numbers}
-use Rattle.session.specs.Headline.{HasPrinted, HasTakenAll}
+use Rattle.session.specs.Headline.{HasPrinted}
 use Rattle.session.specs.Moment.{Moment, Run, moment, start_of, with_output, numbers_after}
 use Rattle.session.specs.Moved.{run_in}
+use Rattle.session.specs.Delivering.{HasTakenAll}
 use Rattle.session.proofs.Deliveries.{end_begun, end_taken}
 use Rattle.session.proofs.Ends.{halted, paused, replayed}
 use Rattle.session.proofs.Printed.{ending_closed, ending_saved, leaves_part, may_leave, reported, stopped_unsaved, unreported}
