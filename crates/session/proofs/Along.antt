@@ -8,7 +8,7 @@ use Rattle.replay_model.specs.Play.{Replies}
 use Rattle.replay_model.specs.ReplayState.{delivered}
 use Rattle.replay_model.specs.Transcript.{asks, matches, pattern_of, shapes_of}
 use Rattle.replay_parts.specs.Checkpoint.{Checkpoint, advanced, advanced_by, version_after}
-use Rattle.session.specs.Along.{along, state_along, version_since}
+use Rattle.session.specs.Course.{along, state_along, version_since}
 
 -- one delivery more: how many questions were asked
 pub asks-push : (ds : List Delivery) (d : Delivery) → asks (ds ++ d ∷ []) ≡ asks ds + asks (d ∷ [])

@@ -16,7 +16,7 @@ use Rattle.splitting.specs.Graphs.{routing_by}
 use Rattle.splitting.specs.Sections.{graph_answer, graph_section}
 use Rattle.splitting.proofs.Pieces.{below-same}
 use Rattle.splitting.proofs.Versions.{routed-all}
-use Rattle.session.specs.Answering.{answer_held, answer_text, closing_by, closing_held}
+use Rattle.session.specs.Course.{answer_held, answer_text, closing_by, closing_held}
 use Rattle.session.specs.Remapping.{Mapped, mapped_by}
 use Rattle.session.proofs.Versions.{all_held_by}
 

@@ -23,7 +23,7 @@ use Rattle.replay_model.proofs.Explaining.{Explained-is, Explained-rests}
 use Rattle.replay_model.proofs.Fetching.{failed-taken, missing-taken}
 use Rattle.replay_parts.specs.Checkpoint.{Checkpoint, advanced, advanced_by}
 use Rattle.world.specs.Meaning.{meaning}
-use Rattle.session.specs.Counts.{SourceCounts, HasCounted, RoseBy}
+use Rattle.session.specs.Moment.{SourceCounts, HasCounted, RoseBy, Beginning, Environment, Stage, with_mapped, with_output, with_world, standing}
 use Rattle.text_output.specs.declared.write.Unwritten.{Unwritten}
 use Rattle.text_output.specs.Printing.{Output}
 use Rattle.text_output.proofs.Parts.{after_twice}
@@ -33,16 +33,13 @@ use Rattle.session.specs.declared.report.Report.TheVariants.{Answers, Changes}
 use Rattle.session.specs.declared.stop.Halt.{Halt}
 use Rattle.session.specs.declared.stop.Halt.TheVariants.{Unapplied as NotApplied}
 use Rattle.session.specs.declared.stop.Stop.TheVariants.{OutOfMemory}
-use Rattle.term_pool.specs.declared.fault.PoolFault.TheVariants.{OutOfMemory as Starved}
-use Rattle.session.specs.Along.{along, state_along, steps_of_delivery}
-use Rattle.session.specs.Answering.{answer_by, answer_held, answer_of_delivery, answer_text, said_by}
-use Rattle.session.specs.Course.{Course, course_after, course_begun, course_remapping, course_to_end, led_to, said_behind, version_at}
-use Rattle.session.specs.Moment.{Beginning, Environment, Stage, with_mapped, with_output, with_world, standing}
-use Rattle.session.specs.Needed.{HaveRoom, HaveRoomBefore, needed_anew, needed_of_delivery, needed_by_due}
-use Rattle.session.specs.Remapping.{KeepsVersion, Mapped, mapped_by}
-use Rattle.session.specs.Report.{AnswersQuestion, HasAnswered, HasReported, TellsBy}
+use Rattle.term_pool.specs.declared.fault.PoolFault.TheVariants.{OutOfMemory as StoreOutOfMemory}
+use Rattle.session.specs.Course.{along, state_along, steps_of_delivery, answer_by, answer_held, answer_of_delivery, answer_text, said_by, Course, course_after, course_begun, course_remapping, course_to_end, led_to, said_behind, version_at}
+use Rattle.session.specs.Remapping.{HaveRoom, HaveRoomBefore, needed_anew, needed_of_delivery, needed_by_due, KeepsVersion, Mapped, mapped_by}
+use Rattle.session.specs.Report.{HasReported}
 use Rattle.session.specs.Stop.{stop_of_halt, stop_of_unwritten}
-use Rattle.session.specs.Taking.{AppliesDue, AtEnd, AtRest, CutsOff, IsHeldUp, IsWithin, Leads, RemapsPages, StaysWithin, judgement, turn}
+use Rattle.session.specs.Taking.{IsWithin, judgement}
+use Rattle.session.specs.Delivering.{AnswersQuestion, HasAnswered, TellsBy, AppliesDue, AtEnd, AtRest, CutsOff, IsHeldUp, Leads, RemapsPages, StaysWithin, turn}
 use Rattle.session.proofs.Due.{no_call, within}
 use Rattle.session.proofs.Along.{along-push, along-still, asked-along, asks-push, matched-along, version-along, version-push}
 use Rattle.session.proofs.Answers.{answer_held_by}
@@ -288,10 +285,10 @@ module _ (environment : Environment) (ds : List Delivery) (start : Beginning) wh
   }
 
   -- a world at rest is where its play is
-  pub rest_within : (now : Stage) (reported : ℕ) → AtRest environment ds reported start now → IsWithin (NotApplied Starved) environment (course_begun environment.routes ds None start) (λ replies. led_to ds start replies) start now
+  pub rest_within : (now : Stage) (reported : ℕ) → AtRest environment ds reported start now → IsWithin (NotApplied StoreOutOfMemory) environment (course_begun environment.routes ds None start) (λ replies. led_to ds start replies) start now
   rest_within now reported at_rest =
-      let There : List Delivery → Type 0 = λ l. IsWithin (NotApplied Starved) environment (record (course_after environment.routes l start) { bytes = said_behind environment.routes ds start }) (λ replies. led_to ds start replies) start now in
-      subst There (sym (append-nil ds)) (within Starved environment (course_after environment.routes ds start) (λ replies. led_to ds start replies) reported start now now.counts (no_call now.counts) (record { leads = at_rest.leads; steps = 0; is = rest_is now reported at_rest }))
+      let There : List Delivery → Type 0 = λ l. IsWithin (NotApplied StoreOutOfMemory) environment (record (course_after environment.routes l start) { bytes = said_behind environment.routes ds start }) (λ replies. led_to ds start replies) start now in
+      subst There (sym (append-nil ds)) (within StoreOutOfMemory environment (course_after environment.routes ds start) (λ replies. led_to ds start replies) reported start now now.counts (no_call now.counts) (record { leads = at_rest.leads; steps = 0; is = rest_is now reported at_rest }))
 
   -- a watermark is taken, and some of what is due is applied
   pub mark_begun : (halt : Halt) (now then : Stage) (reported : ℕ) (m : ℤ) → StaysWithin halt environment reported (with_world now (after_mark now.world m)) then → AtRest environment ds reported start now →
@@ -480,7 +477,7 @@ module _ (environment : Environment) (ds : List Delivery) (start : Beginning) wh
 -- an event wasn't taken
 pub event_cut_off : (environment : Environment) (e : Event) (reported matched : ℕ) (now : Stage) → CutsOff OutOfMemory environment (turn reported matched (Told e)) now now
 event_cut_off environment e reported matched now = inr (inl (
-  NotApplied Starved,
+  NotApplied StoreOutOfMemory,
   refl,
   record {
     kind = tt;

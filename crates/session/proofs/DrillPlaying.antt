@@ -10,7 +10,7 @@ use Rattle.reorder_buffer.specs.Buffered.{first_due}
 use Rattle.reorder_buffer.specs.declared.taken.Taken.{Taken}
 use Rattle.replay_model.specs.Acceptance.{mapping_of}
 use Rattle.replay_model.specs.Explained.{revision_wanted}
-use Rattle.replay_model.specs.Play.{Replies}
+use Rattle.replay_model.specs.Play.{Replies, nothing_played}
 use Rattle.replay_model.specs.Replies.{failed_events, source_replies}
 use Rattle.replay_model.specs.ReplayState.{ReplayState, after_end, after_some, entered, following, following_to_end, nothing_delivered, nothing_delivered_within}
 use Rattle.replay_model.specs.Transcript.{Question, for_triples, for_bindings, asking, asks, matches, question_of}
@@ -26,27 +26,25 @@ use Rattle.drill_replay.proofs.NeverFull.{never_over}
 use Rattle.drill_replay.proofs.Versions.{drill_by_first, part_asks_none, part_brings_none, part_by_first, part_matches_none}
 use Rattle.session.specs.declared.drill_playing.DrillRun.{DrillRun}
 use Rattle.session.specs.declared.stop.Stop.{Stop}
-use Rattle.session.specs.declared.stop.Stop.TheVariants.{OutOfMemory as Refused}
+use Rattle.session.specs.declared.stop.Stop.TheVariants.{OutOfMemory as StopOutOfMemory}
 use Rattle.checkpoint.specs.declared.numbers.Numbers.{Numbers}
 use Rattle.session.specs.declared.report.Report.TheVariants.{Answers}
 use Rattle.session.specs.declared.stop.Halt.{Halt}
 use Rattle.session.specs.declared.stop.Halt.TheVariants.{Unapplied as NotApplied, Unprinted}
 use Rattle.term_pool.specs.declared.fault.PoolFault.TheVariants.{Full, OutOfMemory}
-use Rattle.session.specs.Counts.{HasCountedAt, RoseBy}
+use Rattle.session.specs.Moment.{HasCountedAt, RoseBy, no_numbers, Beginning, IsFirst, Stage, environment, start_in, with_world}
 use Rattle.session.specs.Course.{Course, course_after, course_begun, course_to_end, led_to, version_at}
 use Rattle.session.specs.DrillPlaying.{HasTakenFirst, LeavesDrill, drill_environment, drill_stage, told_of}
-use Rattle.session.specs.Moment.{Beginning, IsFirst, Stage, environment, no_numbers, start_in, with_world}
-use Rattle.session.specs.Remapping.{HasNoRoom, HoldsWithin, KeepsVersion, Mapped, mapped_by, mapped_in}
+use Rattle.session.specs.Remapping.{HasNoRoom, KeepsVersion, Mapped, mapped_by, mapped_in}
 use Rattle.session.specs.Stop.{stop_of_halt}
-use Rattle.session.specs.Taking.{AppliesDue, AtEnd, AtRest, CutsOff, IsFull, IsHeldUp, IsUntaken, IsWithin, Leads, StaysWithin, TakesDelivery, TakesInPart, judgement, replies_there, turn}
+use Rattle.session.specs.Taking.{IsFull, IsWithin, judgement, replies_there}
+use Rattle.session.specs.Delivering.{AppliesDue, AtEnd, AtRest, CutsOff, IsHeldUp, IsUntaken, Leads, StaysWithin, TakesDelivery, TakesInPart, turn}
 use Rattle.session.proofs.Along.{asks-push, matches-push}
 use Rattle.session.proofs.Deliveries.{end_begun, end_taken}
 use Rattle.session.proofs.Ends.{is_played, none_named_first}
 use Rattle.session.proofs.FromNothing.{ended_first, led_first, version_first}
 use Rattle.session.proofs.Progress.{nothing_taken}
 use Rattle.std.specs.FinMap.{len-empty}
-use Rattle.replay_model.specs.Play.{nothing_played}
-use Rattle.world.proofs.Rooming.{nothing_held}
 use Rattle.drill_replay.proofs.Drills.{rest_of}
 
 -- ---- where the world is
@@ -103,7 +101,7 @@ full_never size world mapped is_size begun is full =
 
 -- a delivery that wasn't taken wholly: memory was refused, before it or at one of the events that it makes due
 pub record IsDrillHalted (size : ℕ) (ds : List Delivery) (d : Delivery) (stop : Stop) (world : WorldState) : Type 0 where
-  pub refused : stop ≡ Refused
+  pub refused : stop ≡ StopOutOfMemory
   pub at : (world.replay ≡ following None (replies_of size) ds) ⊎ ((steps : ℕ) × (world.replay ≡ after_some (replies_of size) steps (entered (following None (replies_of size) ds) d)))
   pub first : IsByFirst world
 
@@ -168,8 +166,8 @@ module _ (run : DrillRun) (ds after : List Delivery) (d : Delivery) (all : drill
     -- it is taken and counted
     pub next_taken : (pages_now : Source) (counts_now : DrillCounts) (answer : Option Taken) (reported_now : ℕ) (out_now : Output) (world_now : WorldState) → told_of pages_now.size ≡ told_of run.pages.size →
         TakesDelivery (environment None Answers (told_of run.pages.size) folder world.limit) (turn 0 0 d) reported_now before (drill_stage pages_now out_now world_now) → answer ≡ answer_of world.replay.buffer d → counts_now ≡ with_answer answer run.counts →
-        world_now.limit ≡ world.limit → (HoldsWithin world.limit world → HoldsWithin world.limit world_now) → HasTakenFirst (record run { pages = pages_now; counts = counts_now }) (ds ++ d ∷ []) out_now world_now
-    next_taken pages_now counts_now answer reported_now out_now world_now told takes answered counted limit held = record {
+        world_now.limit ≡ world.limit → HasTakenFirst (record run { pages = pages_now; counts = counts_now }) (ds ++ d ∷ []) out_now world_now
+    next_taken pages_now counts_now answer reported_now out_now world_now told takes answered counted limit = record {
       start = taken.start;
       first = taken.first;
       nothing = taken.nothing;
@@ -179,7 +177,6 @@ module _ (run : DrillRun) (ds after : List Delivery) (d : Delivery) (all : drill
           (sym (counted ∙ ap (λ (a : Option Taken). with_answer a run.counts) (answered ∙ ap (λ (w : ReplayState). answer_of w.buffer d) stands)))
           (counted-next (replies_of run.size) ds d run.counts taken.counted);
       limit = limit ∙ taken.limit;
-      held = subst (λ n. HoldsWithin n world_now) taken.limit (held (subst (λ n. HoldsWithin n world) (sym taken.limit) taken.held));
     }
       where
         -- nothing is answered
@@ -221,7 +218,7 @@ module _ (run : DrillRun) (ds after : List Delivery) (d : Delivery) (all : drill
           mapped = x.mapped (version_at ds taken.start) taken.at_rest.mapped ∙ ap (λ v. mapped_by v world_now.replay.played.records) (version_first taken.start taken.first (replies_of run.size) ds ∙ part_by_first run.size ds (d ∷ after) all)
 
           by : (halt : Halt) → IsHeldUp halt (drill_environment run.size) out now →
-              IsUntaken halt before now ⊎ IsWithin halt (drill_environment run.size) (course_begun None ds (Some d) taken.start) (λ replies. entered (led_to ds taken.start replies) d) taken.start now → stop_of_halt halt ≡ Refused
+              IsUntaken halt before now ⊎ IsWithin halt (drill_environment run.size) (course_begun None ds (Some d) taken.start) (λ replies. entered (led_to ds taken.start replies) d) taken.start now → stop_of_halt halt ≡ StopOutOfMemory
           by (NotApplied Full) full part = absurd (full_never run.size world_now.replay (mapped_in world_now) is_size (begun at) mapped full)
           by (NotApplied OutOfMemory) held_up part = refl
           by (Unprinted why) held_up part = absurd (⊎_elim (λ never. never) (λ within. within.says) part)
@@ -252,12 +249,10 @@ part_at_rest run ds out world taken = inl (record {
 })
 
 -- what it leaves
-pub leaves_halted : (size : ℕ) (ds : List Delivery) (d : Delivery) (stop : Stop) (world world_now : WorldState) → IsDrillHalted size ds d stop world_now → world.limit ≡ 20000000 → HoldsWithin 20000000 world →
-    world_now.limit ≡ world.limit → (HoldsWithin world.limit world → HoldsWithin world.limit world_now) → LeavesDrill world_now
-leaves_halted size ds d stop world world_now halted limit within same held = record {
+pub leaves_halted : (size : ℕ) (ds : List Delivery) (d : Delivery) (stop : Stop) (world world_now : WorldState) → IsDrillHalted size ds d stop world_now → world.limit ≡ 20000000 → world_now.limit ≡ world.limit → LeavesDrill world_now
+leaves_halted size ds d stop world world_now halted limit same = record {
   first = halted.first;
   limit = same ∙ limit;
-  held = subst (λ n. HoldsWithin n world_now) limit (held (subst (λ n. HoldsWithin n world) (sym limit) within));
 }
 
 -- what a drill leaves at rest
@@ -265,7 +260,6 @@ pub leaves_at_rest : (run : DrillRun) (ds after : List Delivery) (out : Output) 
 leaves_at_rest run ds after out world all taken = record {
   first = by_first world (taken.at_rest.mapped ∙ ap (λ v. mapped_by v world.replay.played.records) (version_first taken.start taken.first (replies_of run.size) ds ∙ part_by_first run.size ds after all));
   limit = taken.limit;
-  held = taken.held;
 }
 
 -- before the first delivery
@@ -279,7 +273,6 @@ starts run out world told zero is first limit = record {
   at_rest = rw (is, first.0, first.1) (nothing_taken (drill_environment run.size) None out _);
   counted = rw zero (record { deliveries = refl; accepted = refl; late = refl });
   limit = limit;
-  held = rw is (nothing_held _ nothing_played.records _ (len-empty _ _));
 }
 
 -- the next delivery of an item is the next of the drill
@@ -322,11 +315,10 @@ module _ (run : DrillRun) (folder : List ℕ) (out : Output) (world : WorldState
   end_first keeps = keeps (version_at (drill run.size) taken.start) taken.at_rest.mapped ∙ ap (λ v. mapped_by v world_now.replay.played.records) (version_first taken.start taken.first (replies_of run.size) (drill run.size) ∙ drill_by_first run.size)
 
   -- and it leaves this
-  pub leaves_end : KeepsVersion (mapped_in world) (mapped_in world_now) world.replay.played.records world_now.replay.played.records → world_now.limit ≡ world.limit → HoldsWithin world.limit world_now → LeavesDrill world_now
-  leaves_end keeps same held = record {
+  pub leaves_end : KeepsVersion (mapped_in world) (mapped_in world_now) world.replay.played.records world_now.replay.played.records → world_now.limit ≡ world.limit → LeavesDrill world_now
+  leaves_end keeps same = record {
     first = by_first world_now (end_first keeps);
     limit = same ∙ taken.limit;
-    held = subst (λ n. HoldsWithin n world_now) taken.limit held;
   }
 
   -- all was applied

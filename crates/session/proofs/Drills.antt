@@ -4,13 +4,13 @@ use Rattle.std.specs.List.{flat_map}
 use Rattle.replay_model.specs.ReplayState.{ReplayState}
 use Rattle.wq_io.specs.declared.sink.Sink.{Ghosts as SinkOf}
 use Rattle.text_output.specs.declared.write.Unwritten.{Unwritten}
-use Rattle.text_output.specs.declared.write.Unwritten.TheVariants.{WriteFault as NotWritten, OutOfMemory as Refused}
+use Rattle.text_output.specs.declared.write.Unwritten.TheVariants.{WriteFault as NotWritten, OutOfMemory}
 use Rattle.text_output.specs.Printing.{Output, Prints, output}
 use Rattle.text_output.proofs.Parts.{cut_short_at_once}
 use Rattle.drill_replay.specs.Playing.{HasBegun}
 use Rattle.drill_replay.specs.Summary.{drilled, summary_lines, summary_of}
-use Rattle.session.specs.Counts.{HasWrittenOn}
-use Rattle.session.specs.Drilling.{DrillStopped, HasDrilled, summary_text}
+use Rattle.session.specs.Moment.{HasWrittenOn}
+use Rattle.session.specs.Plans.{DrillStopped, HasDrilled, summary_text}
 
 -- texts one after the other
 joined : {X : Type 0} (f : X → List ℕ) (xs : List X) → flat_map f xs ≡ flat_map (λ text. text) (map f xs)
@@ -18,7 +18,7 @@ joined f [] = refl
 joined f (x ∷ xs) = ap (λ l. f x ++ l) (joined f xs)
 
 -- nothing was printed, since memory was refused
-pub not_begun : (size : ℕ) (old new : Output) (world : ReplayState) → new ≡ old → HasBegun size world → DrillStopped Refused size old new world
+pub not_begun : (size : ℕ) (old new : Output) (world : ReplayState) → new ≡ old → HasBegun size world → DrillStopped OutOfMemory size old new world
 not_begun size old new world same begun = rw same (record { has_come = begun; cut_short = (cut_short_at_once (summary_text size) old).outcome })
 
 -- the lines of the summary of a drill that was run to its end were printed, or a prefix of them
@@ -33,7 +33,7 @@ module _ {X : Type 0} (f : X → List ℕ) (lines : List X) (size : ℕ) (old ne
   pub printed_in_part : (result : Result (Unit {0}) Unwritten) → HasBegun size world → Prints (flat_map f lines) old new result → IfErr result (λ why. DrillStopped why size old new world)
   printed_in_part (Ok done) begun printed = tt
   printed_in_part (Err NotWritten) begun printed = record { has_come = is; cut_short = rw text at printed.outcome }
-  printed_in_part (Err Refused) begun printed = record { has_come = begun; cut_short = rw text at printed.outcome }
+  printed_in_part (Err OutOfMemory) begun printed = record { has_come = begun; cut_short = rw text at printed.outcome }
 
 -- where nothing was printed, the output went on
 module _ {K : Type 0} (sink : SinkOf K) where

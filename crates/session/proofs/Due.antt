@@ -31,7 +31,7 @@ use Rattle.world.specs.Meaning.{meaning}
 use Rattle.text_output.specs.declared.write.Unwritten.{Unwritten}
 use Rattle.text_output.specs.Printing.{Output}
 use Rattle.patch_stream.specs.Stream.{Step, step, steps_due}
-use Rattle.session.specs.Counts.{SourceCounts, HasCounted, HasCountedUnapplied, HasGoneOn, RoseBy}
+use Rattle.session.specs.Moment.{SourceCounts, HasCounted, HasCountedUnapplied, HasGoneOn, RoseBy, Beginning, Environment, Stage, onward, environment, stage_in, with_mapped, with_world}
 use Rattle.session.specs.Course.{Course}
 use Rattle.graph_routes.specs.declared.routes.Route.{Route}
 use Rattle.session.specs.declared.report.Report.{Report}
@@ -40,11 +40,10 @@ use Rattle.session.specs.declared.stop.Halt.TheVariants.{Unapplied as NotApplied
 use Rattle.term_pool.specs.declared.fault.PoolFault.{PoolFault as StoreFault}
 use Rattle.term_pool.specs.declared.fault.PoolFault.TheVariants.{Full, OutOfMemory}
 use Rattle.revisions.specs.declared.revisions.Revisions.{Ghosts as RevisionsOf}
-use Rattle.session.specs.Moment.{Beginning, Environment, Stage, onward, environment, stage_in, with_mapped, with_world}
-use Rattle.session.specs.Needed.{HaveRoom, HaveRoomBefore, needed_by, needed_by_due, needed_for}
-use Rattle.session.specs.Remapping.{HasNoRoom, KeepsVersion, Mapped, held_triples, mapped_by, mapped_in}
-use Rattle.session.specs.Report.{HasReported, HasReportedAt, TellsStepBy}
-use Rattle.session.specs.Taking.{AppliesDue, HoldsDocuments, IsFull, IsUnderWay, IsWithin, Leads, StaysWithin, judgement, replies_there}
+use Rattle.session.specs.Remapping.{HaveRoom, HaveRoomBefore, needed_by, needed_by_due, needed_for, HasNoRoom, KeepsVersion, Mapped, held_triples, mapped_by, mapped_in}
+use Rattle.session.specs.Report.{HasReported, HasReportedAt}
+use Rattle.session.specs.Taking.{HoldsDocuments, IsFull, IsWithin, judgement, replies_there}
+use Rattle.session.specs.Delivering.{TellsStepBy, AppliesDue, IsUnderWay, Leads, StaysWithin}
 use Rattle.session.proofs.Needed.{due-some, next_met, room_replied}
 use Rattle.session.proofs.Reports.{reported_but_last, reported_next, reported_still, steps-some, still_answered}
 use Rattle.session.proofs.Versions.{all_held_by}
@@ -400,16 +399,3 @@ full_there routes report None folder limit x r bytes is there known = cc
 full_there routes report (Some c) folder limit x r bytes is there known =
     let same : c folder ≡ there = cc in
     ap (λ (f : ℕ → Option Bytes). f r) (sym same) ∙ is.1
-
-pub is_full : (routes : Option (List Route)) (report : Report) (contents : Option Contents) (folder : List ℕ) (limit : ℕ) (old new : WorldState) → old.limit ≡ limit → new ≡ old → IsOverfull contents folder old → IsFull (environment routes report contents folder limit) new.replay (mapped_in new)
-is_full routes report contents folder limit old new same stays over =
-    let Over : ℕ → Type 0 = λ n. HasNoRoom n old.replay.played.records (mapped_in old) over.event.entity (revision_wanted old.replay over.event) over.bytes in
-    rw stays (record {
-      event = over.event;
-      due = over.due;
-      fetches = over.wanted;
-      bytes = over.bytes;
-      document = over.is_reply.0;
-      there = full_there routes report contents folder limit over.event.entity _ over.bytes over.is_reply;
-      over = subst Over same over.over;
-    })

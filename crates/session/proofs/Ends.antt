@@ -23,31 +23,27 @@ use Rattle.replay_model.proofs.ToldContents.{entries-told, held-told}
 use Rattle.entity_model.specs.declared.mapping.MappingVersion.{MappingVersion}
 use Rattle.world.specs.Meaning.{meaning}
 use Rattle.text_output.specs.declared.write.Unwritten.{Unwritten}
-use Rattle.text_output.specs.declared.write.Unwritten.TheVariants.{WriteFault as NotWritten, OutOfMemory as Refused}
+use Rattle.text_output.specs.declared.write.Unwritten.TheVariants.{WriteFault as NotWritten, OutOfMemory as UnwrittenOutOfMemory}
 use Rattle.text_output.specs.Printing.{Output, Prints}
 use Rattle.patch_stream.specs.Stream.{changes}
-use Rattle.session.specs.Counts.{RoseBy, HasCounted}
-use Rattle.session.specs.Course.{Course, course_after, course_ended, course_to_end, version_at}
-use Rattle.session.specs.Headline.{BrokenOff, HasFates, HasReplayed, HasTakenAll, HoldsRightly, IsInterrupted, IsPlayed, IsReplayed, NamesRightly, StandsAtMapping, StandsAtPage, Stopped}
-use Rattle.session.specs.Moment.{Beginning, IsFirst, Moment, Run, Environment, Stage, horizon_at, start_of, with_output}
+use Rattle.session.specs.Moment.{RoseBy, HasCounted, Beginning, IsFirst, Moment, Run, Environment, Stage, horizon_at, start_of, with_output, sections_of, numbers_after, numbers_of}
+use Rattle.session.specs.Course.{Course, course_after, course_ended, course_to_end, version_at, closing_by, closing_held}
+use Rattle.session.specs.Headline.{BrokenOff, HasFates, HasReplayed, HoldsRightly, IsInterrupted, IsPlayed, IsReplayed, NamesRightly, StandsAtMapping, StandsAtPage, Stopped, IsHalted}
 use Rattle.session.specs.Reading.{AreDeliveries}
 use Rattle.session.specs.Remapping.{IsLeftStale, Mapped, mapped_by}
-use Rattle.session.specs.Sections.{sections_of}
-use Rattle.session.specs.Report.{HasAnswered, HasReported}
+use Rattle.session.specs.Report.{HasReported}
 use Rattle.checkpoint.specs.declared.numbers.Numbers.{Numbers}
-use Rattle.session.specs.Saving.{numbers_after, numbers_of}
 use Rattle.session.specs.Stop.{stop_of_halt, stop_of_unapplied, stop_of_unwritten}
-use Rattle.session.specs.Stops.{HasTaken, IsHalted}
 use Rattle.graph_routes.specs.declared.routes.Route.{Route}
 use Rattle.replay_model.specs.Versions.{meaning_by}
-use Rattle.session.specs.Answering.{closing_by, closing_held}
 use Rattle.session.specs.declared.report.Report.{Report}
 use Rattle.session.specs.declared.report.Report.TheVariants.{Answers, Changes}
 use Rattle.session.specs.declared.stop.Halt.{Halt}
 use Rattle.session.specs.declared.stop.Halt.TheVariants.{Unapplied as NotApplied, Unprinted}
 use Rattle.term_pool.specs.declared.fault.PoolFault.{PoolFault as StoreFault}
-use Rattle.term_pool.specs.declared.fault.PoolFault.TheVariants.{Full as NoRoom, OutOfMemory as Starved}
-use Rattle.session.specs.Taking.{AtEnd, HoldsDocuments, IsHeldUp, IsLeft, Leads, judgement, replies_there}
+use Rattle.term_pool.specs.declared.fault.PoolFault.TheVariants.{Full as NoRoom, OutOfMemory as StoreOutOfMemory}
+use Rattle.session.specs.Taking.{HoldsDocuments, judgement, replies_there}
+use Rattle.session.specs.Delivering.{HasTakenAll, HasTaken, HasAnswered, AtEnd, IsHeldUp, IsLeft, Leads}
 use Rattle.words.specs.Options.{closes, max_bytes_of}
 use Rattle.session.proofs.FromNothing.{ended_first, led_first}
 use Rattle.session.proofs.Needed.{all_met, due-none}
@@ -195,25 +191,25 @@ rose_since before between after earlier rose = omega arith
 pub interrupted : (why : Unwritten) (run : Run) (before now : Moment) (between : Output) → before.stage.output.faults ≤ between.faults → (why ≡ NotWritten → Rose between.faults now.stage.output.faults) → IsInterrupted why run before now →
     Stopped (stop_of_unwritten why) run before now
 interrupted NotWritten run before now between earlier rose stands = inl (rose_since before.stage.output.faults between.faults now.stage.output.faults earlier (rose refl), stands)
-interrupted Refused run before now between earlier rose stands = inl (inr stands)
+interrupted UnwrittenOutOfMemory run before now between earlier rose stands = inl (inr stands)
 
 -- not all that was due was applied, or told
 pub halted : (halt : Halt) (run : Run) (before now : Moment) (between : Output) → before.stage.output.faults ≤ between.faults → IsHeldUp halt run.environment between now.stage → IsHalted halt run before now → Stopped (stop_of_halt halt) run before now
 halted (NotApplied NoRoom) run before now between earlier full stands = inl (full, stands)
-halted (NotApplied Starved) run before now between earlier held_up stands = inl (inl (inl stands))
+halted (NotApplied StoreOutOfMemory) run before now between earlier held_up stands = inl (inl (inl stands))
 halted (Unprinted NotWritten) run before now between earlier rose stands = inl (rose_since before.stage.output.faults between.faults now.stage.output.faults earlier rose, inr (inl stands))
-halted (Unprinted Refused) run before now between earlier rose stands = inl (inr (inr (inl stands)))
+halted (Unprinted UnwrittenOutOfMemory) run before now between earlier rose stands = inl (inr (inr (inl stands)))
 
 -- not all that is held was remapped
 pub left_stale : (why : StoreFault) (run : Run) (before now : Moment) → IsLeftStale why run.environment.limit now.stage.world.played.records now.stage.mapped → StandsAtMapping run before now → Stopped (stop_of_unapplied why) run before now
 left_stale NoRoom run before now full stands = inr (full, stands)
-left_stale Starved run before now stale stands = inl (inl (inr stands))
+left_stale StoreOutOfMemory run before now stale stands = inl (inl (inr stands))
 
 -- a page was remapped, and not told wholly
 pub page_unprinted : (why : Unwritten) (run : Run) (before now : Moment) (limit : ℕ) (records : Records) (between : Output) → before.stage.output.faults ≤ between.faults →
     IsLeft (Unprinted why) limit records now.stage.mapped between now.stage.output → StandsAtPage why run before now → Stopped (stop_of_unwritten why) run before now
 page_unprinted NotWritten run before now limit records between earlier rose stands = inl (rose_since before.stage.output.faults between.faults now.stage.output.faults earlier rose, inr (inr stands))
-page_unprinted Refused run before now limit records between earlier rose stands = inl (inr (inr (inr stands)))
+page_unprinted UnwrittenOutOfMemory run before now limit records between earlier rose stands = inl (inr (inr (inr stands)))
 
 -- the sections weren't all written
 pub broken_off : (why : Unwritten) (run : Run) (before now : Moment) (out : Output) → run.environment.report ≡ Answers → (replayed : HasReplayed run before now) → before.stage.output.faults ≤ now.stage.output.faults →

@@ -30,7 +30,7 @@ use Rattle.replay_model.proofs.FetchCounts.{fetches_due-none}
 use Rattle.replay_model.proofs.Fetching.{failed-taken}
 use Rattle.replay_model.proofs.Following.{after_due-none}
 use Rattle.replay_parts.specs.Checkpoint.{Checkpoint}
-use Rattle.session.specs.Along.{along, fetches_of_delivery, state_along}
+use Rattle.session.specs.Course.{along, fetches_of_delivery, state_along}
 use Rattle.session.proofs.Along.{along-push, along-still, state-push}
 
 -- ---- a buffer that rests, and one more event

@@ -16,9 +16,7 @@ use Rattle.world.specs.Meaning.{meaning}
 use Rattle.patch_stream.specs.Stream.{Step, steps_applied, steps_due, steps_of_play, steps_to_end, stream_text}
 use Rattle.patch_stream.proofs.Chains.{steps-push}
 use Rattle.checkpoint.specs.declared.numbers.Numbers.{Numbers}
-use Rattle.session.specs.Along.{along, fetches_of_delivery, state_along, steps_of_delivery, stream_text_from, version_since}
-use Rattle.session.specs.Answering.{answer_by, answer_of_delivery, said_by}
-use Rattle.session.specs.Course.{course_ended, course_to_end, led_to, version_at}
+use Rattle.session.specs.Course.{along, fetches_of_delivery, state_along, steps_of_delivery, stream_text_from, version_since, answer_by, answer_of_delivery, said_by, course_ended, course_to_end, led_to, version_at}
 use Rattle.session.specs.Moment.{Beginning, IsFirst, horizon_at, standing}
 use Rattle.session.specs.OneRun.{said_from_start}
 use Rattle.session.proofs.Along.{version-along}

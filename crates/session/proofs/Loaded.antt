@@ -39,20 +39,3 @@ is_snapshot left limit world numbers saved is rests documents applied within hel
   held = subst (λ n. HoldsWithin n world) (ap (λ (w : WorldState). w.limit) is) held;
   within = within;
 }
-
--- one with another horizon than the options name is refused
-pub other_horizon : (choices : Choices) (left : Option (List ℕ)) (world : WorldState) (numbers : Numbers) (allowed : Bool) → IsSnapshotOf left (max_terms_of choices) world numbers →
-    (AllowsHorizon choices world.replay.buffer.horizon → allowed ≡ true) → allowed ≡ false → HasOtherHorizon choices left
-other_horizon choices left world numbers allowed loaded would isnt = record {
-  world = world;
-  numbers = numbers;
-  loaded = loaded;
-  differs = λ allows. let never : true ≡ false = sym (would allows) ∙ isnt in cc;
-}
-
--- graphs may be made of a world that is loaded
-pub snapshot_ready : (left : Option (List ℕ)) (limit : ℕ) (world : WorldState) (numbers : Numbers) → IsSnapshotOf left limit world numbers → IsReadyFor world
-snapshot_ready left limit world numbers loaded = record {
-  by_one = ap (λ (w : WorldState). w.by_two) loaded.is;
-  room = subst (λ n. HoldsWithin n world) (sym (ap (λ (w : WorldState). w.limit) loaded.is)) loaded.held;
-}

@@ -43,9 +43,8 @@ use Rattle.world.specs.Roomed.{room_with}
 use Rattle.world.specs.WorldState.{WorldState, first_of, next_stale, remapped, stale, stale_by, triples_anew, triples_of, with_version_of}
 use Rattle.world.proofs.ByVersion.{stale_remapped}
 use Rattle.replay_parts.specs.Checkpoint.{Checkpoint}
-use Rattle.session.specs.Along.{along, state_along, version_since}
-use Rattle.session.specs.Needed.{HaveRoom, HaveRoomBefore, needed_anew, needed_of_delivery, needed_by, needed_by_all, needed_by_due, needed_by_pages, needed_for}
-use Rattle.session.specs.Remapping.{Mapped, mapped_by, mapped_in}
+use Rattle.session.specs.Course.{along, state_along, version_since}
+use Rattle.session.specs.Remapping.{HaveRoom, HaveRoomBefore, needed_anew, needed_of_delivery, needed_by, needed_by_all, needed_by_due, needed_by_pages, needed_for, Mapped, mapped_by, mapped_in}
 use Rattle.session.proofs.Along.{along-push, version-along}
 
 -- ---- needs and a limit

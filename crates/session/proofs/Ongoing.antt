@@ -4,8 +4,13 @@ use Rattle.wq_io.specs.declared.source.Source.{Ghosts as SourceOf}
 use Rattle.wq_io.specs.declared.sink.Sink.{Ghosts as SinkOf}
 use Rattle.revisions.specs.declared.revisions.Revisions.{Ghosts as RevisionsOf}
 use Rattle.session.specs.declared.ports.Ports.{Ports}
-use Rattle.session.specs.Counts.{HasGoneOn, HasReadOn, HasWrittenOn, HaveGoneOn}
+use Rattle.session.specs.Moment.{HasGoneOn, HasReadOn, HasWrittenOn, HaveGoneOn}
+use Rattle.session.specs.Moved.{GoesOn, Moved}
 use Rattle.session.proofs.Due.{gone-on}
+
+-- a replay goes on, and then further
+pub goes_on : (old middle now : Moved) → GoesOn old middle → GoesOn middle now → GoesOn old now
+goes_on old middle now first then = record { limit = then.limit ∙ first.limit; routes = then.routes ∙ first.routes; earlier = then.earlier ∙ first.earlier }
 
 module _ {S R K F : Type 0} (input : SourceOf S) (source : RevisionsOf R) (sink : SinkOf K) (file : SinkOf F) where
   -- nothing was asked yet
@@ -44,11 +49,6 @@ module _ {S R K F : Type 0} (input : SourceOf S) (source : RevisionsOf R) (sink 
     resumed = so_far.resumed;
   }
 
-  -- what waits at the end is applied and told
-  pub ended_on : (old now : Ports S R K F) (revisions : R) (out : K) → HaveGoneOn input source sink file old now → HasGoneOn source now.revisions revisions → HasWrittenOn sink now.out out →
-      HaveGoneOn input source sink file old (record now { revisions = revisions; out = out })
-  ended_on old now revisions out so_far fetched written = written_on old (record now { revisions = revisions }) out (fetched_on old now revisions so_far fetched) written
-
   -- records are followed
   pub followed_on : (ports : Ports S R K F) (events : S) (out : K) → input.faults ports.events ≤ input.faults events → input.most_faults events ≡ input.most_faults ports.events → HasWrittenOn sink ports.out out →
       HaveGoneOn input source sink file ports (record ports { events = events; out = out })
@@ -62,16 +62,6 @@ module _ {S R K F : Type 0} (input : SourceOf S) (source : RevisionsOf R) (sink 
     revisions = gone-on source _ _ _ so_far.revisions fetched;
     out = record { faults = omega (arith, so_far.out.faults, written.faults); most = written.most ∙ so_far.out.most };
     snapshot = so_far.snapshot;
-    resumed = so_far.resumed;
-  }
-
-  -- the snapshot is written
-  pub saved_on : (old now : Ports S R K F) (snapshot : F) → HaveGoneOn input source sink file old now → HasWrittenOn file now.snapshot snapshot → HaveGoneOn input source sink file old (record now { snapshot = snapshot })
-  saved_on old now snapshot so_far more = record {
-    events = so_far.events;
-    revisions = so_far.revisions;
-    out = so_far.out;
-    snapshot = record { faults = omega (arith, so_far.snapshot.faults, more.faults); most = more.most ∙ so_far.snapshot.most };
     resumed = so_far.resumed;
   }
 

@@ -12,7 +12,7 @@ use Rattle.replay_model.specs.Versions.{meaning_by, with_version}
 use Rattle.world.specs.Meaning.{meaning}
 use Rattle.world.specs.WorldState.{WorldState, first_of, remapped, stale, stored_of, with_version_of}
 use Rattle.text_output.specs.declared.write.Unwritten.{Unwritten}
-use Rattle.text_output.specs.declared.write.Unwritten.TheVariants.{WriteFault, OutOfMemory as NoMemory}
+use Rattle.text_output.specs.declared.write.Unwritten.TheVariants.{WriteFault, OutOfMemory}
 use Rattle.text_output.specs.Printing.{Output}
 use Rattle.patch_stream.specs.Stream.{Step, step, steps_anew, steps_remapped}
 use Rattle.session.specs.declared.report.Report.{Report}
@@ -20,8 +20,7 @@ use Rattle.session.specs.declared.report.Report.TheVariants.{Answers, Changes}
 use Rattle.session.specs.declared.stop.Halt.TheVariants.{Unapplied as NotApplied, Unprinted}
 use Rattle.term_pool.specs.declared.fault.PoolFault.{PoolFault as StoreFault}
 use Rattle.session.specs.Remapping.{IsLeftStale, mapped_in}
-use Rattle.session.specs.Report.{TellsBy, TellsStepBy}
-use Rattle.session.specs.Taking.{IsLeft, RemapsPages}
+use Rattle.session.specs.Delivering.{TellsBy, TellsStepBy, IsLeft, RemapsPages}
 use Rattle.session.proofs.Needed.{stale_after}
 use Rattle.session.proofs.Reports.{tells_but_last, tells_next, tells_none}
 use Rattle.session.proofs.Versions.{Remaps, remaps_roomed}
@@ -89,7 +88,7 @@ module _ (report : Report) (reported between : ℕ) (version : MappingVersion) (
   rose : (report : Report) (why : Unwritten) → out_old.faults ≤ out_now.faults → TellsStepBy report between this out_now out_new (Err why) → IsLeft (Unprinted why) old.limit old.replay.played.records (mapped_in new) out_old out_new
   rose Answers why more never = absurd never
   rose Changes WriteFault more tells = omega (arith, more, (tells.outcome.1.failed refl).1)
-  rose Changes NoMemory more tells = tt
+  rose Changes OutOfMemory more tells = tt
 
   -- one more isn't told wholly
   pub told_but_last : (why : Unwritten) → Remaps version old new → out_old.faults ≤ out_now.faults → TellsStepBy report between this out_now out_new (Err why) →

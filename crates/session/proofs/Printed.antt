@@ -1,5 +1,5 @@
 -- What stands where what was taken is printed and saved, wholly or not.
-use Rattle.std.proofs.Common.{refl, sym, subst, ◌∙◌, ap, inr, ◌≡◌, ℕ, ◌-◌, ◌^◌, ◌<◌, Bool, true, false, List, [], ◌++◌, Option, Some, Ok, Err}
+use Rattle.std.proofs.Common.{refl, sym, subst, ◌∙◌, ap, inr, ◌≡◌, ℕ, ◌-◌, ◌^◌, ◌<◌, ◌≤◌, Bool, true, false, List, [], ◌++◌, Option, Some, Ok, Err}
 use Rattle.wq_io.specs.Streams.{after_known}
 use Rattle.delivery.specs.declared.Delivery.{Delivery}
 use Rattle.replay_model.specs.Records.{Bytes}
@@ -9,23 +9,23 @@ use Rattle.replay_model.specs.ReplayState.{ReplayState}
 use Rattle.replay_model.specs.Transcript.{Sections}
 use Rattle.graph_routes.specs.declared.routes.Route.{Route}
 use Rattle.text_output.specs.declared.write.Unwritten.{Unwritten}
-use Rattle.text_output.specs.declared.write.Unwritten.TheVariants.{WriteFault as NotWritten, OutOfMemory as Refused}
+use Rattle.text_output.specs.declared.write.Unwritten.TheVariants.{WriteFault as NotWritten, OutOfMemory}
 use Rattle.text_output.specs.Printing.{IsCutShort, Output, Prints}
 use Rattle.text_output.proofs.Parts.{after_twice}
 use Rattle.checkpoint.specs.declared.numbers.Numbers.{Numbers}
-use Rattle.session.specs.Answering.{closing_by, said_by}
-use Rattle.session.specs.Course.{Course, course_ended, course_printed, version_at}
-use Rattle.session.specs.Headline.{Ending, HasPrinted, HasTakenAll, IsFunction, IsReplayed, LeavesSnapshot, Stopped, Unsaved, course_of}
-use Rattle.session.specs.Moment.{Beginning, IsFirst, Moment, Run, Environment, Stage, standing, start_of, with_output}
-use Rattle.session.specs.Sections.{sections_of}
+use Rattle.replay_model.specs.Versions.{meaning_by}
+use Rattle.world.specs.Meaning.{meaning}
+use Rattle.session.specs.Course.{closing_by, closing_held, said_by, Course, course_ended, course_printed, version_at}
+use Rattle.session.specs.Headline.{Ending, HasPrinted, IsFunction, IsReplayed, LeavesSnapshot, Stopped, Unsaved, course_of}
+use Rattle.session.specs.Moment.{Beginning, IsFirst, Moment, Run, Environment, Stage, standing, start_of, with_output, sections_of, HasSaved, numbers_of, snapshot_text}
 use Rattle.session.specs.Report.{bytes_of}
-use Rattle.session.specs.Saving.{HasSaved, numbers_of, snapshot_text}
 use Rattle.session.specs.Stop.{MayLeavePart, stop_of_unwritten}
 use Rattle.session.specs.declared.report.Report.{Report}
 use Rattle.session.specs.declared.report.Report.TheVariants.{Answers, Changes}
 use Rattle.session.specs.Taking.{judgement, replies_there}
+use Rattle.session.specs.Delivering.{HasTakenAll, PrintsClosing}
 use Rattle.words.specs.Options.{closes}
-use Rattle.session.proofs.Ends.{none_failed, none_named_first}
+use Rattle.session.proofs.Ends.{broken_off, none_failed, none_named_first, prints_asked}
 
 -- what the output has where questions are answered
 bytes_answered : (report : Report) (course : Course) (start : Beginning) (replies : Replies) → report ≡ Answers → bytes_of report course start replies ≡ course.bytes replies
@@ -118,6 +118,26 @@ printed_changes run numbers before now changed taken =
     printed run numbers before now now.stage.output taken
     (λ replies is says. says ∙ bytes_told run.environment.routes run.environment.report (closes run.choices) (sections_of run.choices) taken.replayed.deliveries (start_of run before) replies changed)
 
+-- what is printed at the end of a stage
+abbrev pub end_text : Run → Stage → List ℕ
+end_text run now = closing_held run.environment.routes (meaning_by meaning now.mapped.by_two) (sections_of run.choices) now.world.played
+
+-- all that is reported was printed
+pub reported : (report : Report) (run : Run) (numbers : Numbers) (before now : Moment) (out : Output) → run.environment.report ≡ report → HasTakenAll run numbers before now → PrintsClosing report (end_text run now.stage) now.stage.output out (Ok tt) →
+    HasPrinted run numbers before (record now { stage = with_output now.stage out })
+reported Answers run numbers before now out is taken prints =
+    printed_answers run numbers before now out is taken (prints_asked run.environment.routes _ (sections_of run.choices) now.stage.mapped now.stage.world.played _ _ _ taken.replayed.replay.played.mapped prints)
+reported Changes run numbers before now out is taken prints = subst (λ o. HasPrinted run numbers before (record now { stage = with_output now.stage o })) (sym prints.1) (printed_changes run numbers before now is taken)
+
+-- or not
+pub unreported : (report : Report) (why : Unwritten) (run : Run) (numbers : Numbers) (before now : Moment) (out : Output) → run.environment.report ≡ report → before.stage.output.faults ≤ now.stage.output.faults → HasTakenAll run numbers before now →
+    PrintsClosing report (end_text run now.stage) now.stage.output out (Err why) → Stopped (stop_of_unwritten why) run before (record now { stage = with_output now.stage out })
+unreported Answers why run numbers before now out is earlier taken prints =
+    broken_off why run before now out is taken.replayed earlier (prints_asked run.environment.routes _ (sections_of run.choices) now.stage.mapped now.stage.world.played _ _ _ taken.replayed.replay.played.mapped prints)
+unreported Changes why run numbers before now out is earlier taken prints =
+    let never : Err why ≡ Ok tt = prints.0 in
+    cc
+
 -- the input ends the deliveries, and nothing is saved
 pub ending_closed : (run : Run) (numbers : Numbers) (before now : Moment) → closes run.choices ≡ true → now.snapshot ≡ before.snapshot → HasPrinted run numbers before now → Ending run before now
 ending_closed run numbers before now closed same p =
@@ -160,7 +180,7 @@ stopped_unsaved why run numbers before now file open_still same p prints = by wh
   where
     by : (w : Unwritten) → Unsaved w run before (record now { snapshot = file }) → Stopped (stop_of_unwritten w) run before (record now { snapshot = file })
     by NotWritten part = inr ((part.cut_short.failed refl).1, part)
-    by Refused part = inr part
+    by OutOfMemory part = inr part
 
 -- while it wrote the snapshot
 pub leaves_part : (why : Unwritten) (run : Run) (numbers : Numbers) (before now : Moment) (file : Output) → closes run.choices ≡ false → now.snapshot ≡ before.snapshot → HasPrinted run numbers before now →
@@ -170,4 +190,4 @@ leaves_part why run numbers before now file open_still same p prints = inr (why,
 -- a run that stopped while it wrote may have left a part
 pub may_leave : (why : Unwritten) → MayLeavePart (stop_of_unwritten why)
 may_leave NotWritten = tt
-may_leave Refused = tt
+may_leave OutOfMemory = tt

@@ -3,7 +3,7 @@ use Rattle.std.proofs.Common.{refl, sym, subst, ◌∙◌, ap, inl, ⊎_elim, �
 use Rattle.wq_io.specs.Streams.{IsAtEnd, LastRead}
 use Rattle.wq_io.specs.Lines.{HasCause, IsSound, Leaves, ReadsAsNeeded, Reading, fresh, longest_line, unread}
 use Rattle.wq_io.specs.declared.lines.LineFault.{LineFault}
-use Rattle.wq_io.specs.declared.lines.LineFault.TheVariants.{ReadFault as NotRead, TooLong as PastLimit, LineLong as OverLong, OutOfMemory as NoMemory}
+use Rattle.wq_io.specs.declared.lines.LineFault.TheVariants.{ReadFault as NotRead, TooLong as PastLimit, LineLong as OverLong, OutOfMemory as LineOutOfMemory}
 use Rattle.entity_model.specs.declared.id.EntityId.{EntityId}
 use Rattle.entity_model.specs.declared.mapping.MappingVersion.{MappingVersion}
 use Rattle.entity_model.specs.declared.mapping.MappingVersion.TheVariants.{One}
@@ -28,7 +28,7 @@ use Rattle.text_output.specs.Printing.{IsCutShort, Output}
 use Rattle.text_output.proofs.Parts.{after_nothing}
 use Rattle.replica.specs.Record.{record_text}
 use Rattle.patch_stream.specs.Stream.{Step, changes, record_of_step, steps_anew}
-use Rattle.session.specs.Answering.{answer_held, answer_text}
+use Rattle.session.specs.Course.{answer_held, answer_text, course_after, course_begun, course_remapping, led_to, version_at, along, steps_of_delivery}
 use Rattle.checkpoint.specs.declared.numbers.Numbers.{Numbers}
 use Rattle.graph_routes.specs.declared.routes.Route.{Route}
 use Rattle.session.specs.declared.report.Report.{Report}
@@ -37,20 +37,16 @@ use Rattle.session.specs.declared.stop.Halt.{Halt}
 use Rattle.session.specs.declared.stop.Halt.TheVariants.{Unapplied as NotApplied, Unprinted}
 use Rattle.session.specs.declared.stop.Stop.{Stop}
 use Rattle.session.specs.declared.stop.Stop.TheVariants.{BadLine, OutOfMemory}
-use Rattle.term_pool.specs.declared.fault.PoolFault.TheVariants.{Full as NoRoom, OutOfMemory as Starved}
-use Rattle.session.specs.Counts.{SourceCounts}
-use Rattle.session.specs.Along.{along, steps_of_delivery}
-use Rattle.session.specs.Course.{course_after, course_begun, course_remapping, led_to, version_at}
-use Rattle.session.specs.Headline.{IsPlayed, IsPlayedAfter, StandsAtPage, StandsAtQuestion, Stopped}
+use Rattle.term_pool.specs.declared.fault.PoolFault.TheVariants.{Full as NoRoom, OutOfMemory as StoreOutOfMemory}
+use Rattle.session.specs.Moment.{SourceCounts, no_numbers, Beginning, Moment, Run, Environment, Stage, onward, standing, start_in, start_of, with_mapped, with_output}
+use Rattle.session.specs.Headline.{IsPlayed, IsPlayedAfter, StandsAtPage, StandsAtQuestion, Stopped, StopsWithin}
 use Rattle.following.specs.Input.{Input}
-use Rattle.session.specs.Moment.{Beginning, Moment, Run, Environment, Stage, no_numbers, onward, standing, start_in, start_of, with_mapped, with_output}
-use Rattle.session.specs.Needed.{HaveRoomBefore, needed_anew}
+use Rattle.session.specs.Remapping.{HaveRoomBefore, needed_anew, IsLeftStale, Mapped, mapped_by, remapped_some}
 use Rattle.session.specs.Reading.{AreFirst, AreFirstAlone, HasRead, TakesByNeed}
-use Rattle.session.specs.Remapping.{IsLeftStale, Mapped, mapped_by, remapped_some}
-use Rattle.session.specs.Report.{BreaksOffBy, HasAnswered, HasNumberLeft, HasReported, TellsBy, reported_before}
+use Rattle.session.specs.Report.{HasReported}
 use Rattle.session.specs.Stop.{stop_of_fault, stop_of_halt}
-use Rattle.session.specs.Stops.{HasTaken, StopsWithin}
-use Rattle.session.specs.Taking.{AnswersInPart, AtRest, CutsOff, IsStanding, IsUntaken, IsWithin, RemapsInPart, RemapsPages, TakesDelivery, TakesInPart, judgement, turn}
+use Rattle.session.specs.Taking.{IsStanding, IsWithin, judgement}
+use Rattle.session.specs.Delivering.{HasTaken, BreaksOffBy, HasAnswered, HasNumberLeft, TellsBy, reported_before, AnswersInPart, AtRest, CutsOff, IsUntaken, RemapsInPart, RemapsPages, TakesDelivery, TakesInPart, turn}
 use Rattle.words.specs.Options.{max_bytes_of}
 use Rattle.session.proofs.Along.{asks-push, matches-push}
 use Rattle.session.proofs.Explaining.{explained_first}
@@ -117,11 +113,6 @@ one_match (Ask q) = omega arith
 one_match (Mapping v) = omega arith
 one_match (Match q) = omega arith
 
--- the count of matches goes on
-pub match_counted : (numbered : Numbers) (matched : ℕ) (d : Delivery) (reader : Reading) {limit : ℕ} → numbered.matches ≤ 2 ^ 63 → matched ≤ numbered.matches + reader.given → IsSound reader → HasLimits limit reader → limit ≤ 2 ^ 40 →
-    matched + matches (d ∷ []) < 2 ^ 64
-match_counted numbered matched d reader few_matches few sound limits bounded = omega (arith, few_matches, few, one_match d, sound.counted, sound.bounded, sound.within, limits.bytes, bounded)
-
 -- before the first delivery a world that stands between two is at rest
 pub nothing_taken_from : (environment : Environment) (numbered : Numbers) (s : Stage) → IsStanding s.world s.mapped → AtRest environment [] (reported_before environment.report numbered) (start_in numbered s) s
 nothing_taken_from environment numbered s stands = record {
@@ -179,7 +170,7 @@ no_last d never = cc
 -- memory was refused before the first line
 pub starved_at_once : (run : Run) (before : Moment) → IsStanding before.stage.world before.stage.mapped → Stopped OutOfMemory run before before
 starved_at_once run before stands =
-    let stops : StopsWithin (NotApplied Starved) run before before = record {
+    let stops : StopsWithin (NotApplied StoreOutOfMemory) run before before = record {
       deliveries = [];
       last = None;
       kind = tt;
@@ -209,7 +200,7 @@ module _ (run : Run) (before now : Moment) (reader : Reading) (reported matched 
 
   -- memory was refused: the world is as it was after the lines so far
   pub stands : (next : Reading) (input : Input) (last last_next : Option LastRead) → ReadsAsNeeded reader next now.input.left input.left last last_next →
-      StopsWithin (NotApplied Starved) run before (record now { input = input; last_read = last_next })
+      StopsWithin (NotApplied StoreOutOfMemory) run before (record now { input = input; last_read = last_next })
   stands next input last last_next reads = record {
     deliveries = so_far.deliveries;
     last = None;
@@ -235,7 +226,7 @@ module _ (run : Run) (before now : Moment) (reader : Reading) (reported matched 
       record { deliveries = so_far.deliveries; played = played; past = past_limit (max_bytes_of run.choices) reader now.input.left so_far.deliveries so_far.max so_far.sound before.input.left so_far.read cause }
   fault_stops (OverLong number) next input last last_next cause leaves reads =
       record { deliveries = so_far.deliveries; played = played; counted = numbered number cause.0; bad = over_long (max_bytes_of run.choices) reader now.input.left so_far.deliveries so_far.max so_far.sound before.input.left number so_far.read cause.0 cause.1 }
-  fault_stops NoMemory next input last last_next cause leaves reads = inl (inl (inl (inl (stands next input last last_next reads))))
+  fault_stops LineOutOfMemory next input last last_next cause leaves reads = inl (inl (inl (inl (stands next input last last_next reads))))
 
   -- at the end of the input all lines were taken
   pub end_reached : (input : Input) (last_next : Option LastRead) → IsAtEnd input.left → IsAtEnd (unread reader now.input.left) → HasTaken run reported matched before (record now { input = input; last_read = last_next })
@@ -305,18 +296,18 @@ module _ (run : Run) (before now : Moment) (reader : Reading) (reported matched 
           (in_part.world so_far.deliveries (start_of run before) so_far.at_rest)
         where
           Within : Stage → Type 0
-          Within s = IsWithin (NotApplied Starved) run.environment (course_begun run.environment.routes so_far.deliveries None (start_of run before)) (λ replies. led_to so_far.deliveries (start_of run before) replies) (start_of run before) s
+          Within s = IsWithin (NotApplied StoreOutOfMemory) run.environment (course_begun run.environment.routes so_far.deliveries None (start_of run before)) (λ replies. led_to so_far.deliveries (start_of run before) replies) (start_of run before) s
 
           still : after.stage.world ≡ now.stage.world → after.stage.counts ≡ now.stage.counts → after.stage.output ≡ now.stage.output → Within after.stage
           still world counts output =
               subst (λ o. Within (with_output after.stage o)) (sym output)
               (subst (λ w. Within (with_mapped (onward now.stage after.stage.counts w) after.stage.mapped)) (sym world)
               (subst (λ c. Within (with_mapped (onward now.stage c now.stage.world) after.stage.mapped)) (sym counts)
-              (within_mapped Starved _ _ _ _ now.stage after.stage.mapped (rest_within run.environment so_far.deliveries (start_of run before) now.stage reported so_far.at_rest))))
+              (within_mapped StoreOutOfMemory _ _ _ _ now.stage after.stage.mapped (rest_within run.environment so_far.deliveries (start_of run before) now.stage reported so_far.at_rest))))
 
           untaken : (halt : Halt) → after.stage.mapped ≡ mapped_by (version_at so_far.deliveries (start_of run before)) after.stage.world.played.records → IsUntaken halt now.stage after.stage → StopsWithin halt run before after
           untaken (NotApplied NoRoom) mapped never = absurd never
-          untaken (NotApplied Starved) mapped same = record {
+          untaken (NotApplied StoreOutOfMemory) mapped same = record {
             deliveries = so_far.deliveries;
             last = None;
             kind = tt;

@@ -84,19 +84,6 @@ pub still : (left : Option (List ℕ)) → left ≡ before_known [] left
 still None = refl
 still (Some bytes) = refl
 
--- a reader that wasn't called took nothing
-pub not_called : (reader : Reading) (left : Option (List ℕ)) (read : Option LastRead) → IsSound reader → ReadsAsNeeded reader reader left left read read
-not_called reader left read sound = record {
-  before = [];
-  last = [];
-  told = still left;
-  counted = omega arith;
-  needed = inr (refl, refl);
-  piece = omega arith;
-  limit = refl;
-  sound = sound;
-}
-
 -- no bytes decide nothing
 nothing_undecided : (room : ℕ) → IsUndecided room longest_line []
 nothing_undecided room = record { in_line = refl; within = omega arith; short = omega arith }

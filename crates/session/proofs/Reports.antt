@@ -17,7 +17,7 @@ use Rattle.replay_model.specs.Union.{union}
 use Rattle.replay_model.specs.Versions.{all_by}
 use Rattle.world.specs.Meaning.{meaning}
 use Rattle.text_output.specs.declared.write.Unwritten.{Unwritten}
-use Rattle.text_output.specs.declared.write.Unwritten.TheVariants.{WriteFault, OutOfMemory as NoMemory}
+use Rattle.text_output.specs.declared.write.Unwritten.TheVariants.{WriteFault, OutOfMemory}
 use Rattle.replica.specs.Record.{record_text}
 use Rattle.text_output.specs.Printing.{IsCutShort, Output}
 use Rattle.patch_stream.specs.Stream.{Step, changes, is_change, numbered_from, record_of_step, step, step_text, steps_anew, steps_applied, steps_due, told_after}
@@ -27,11 +27,10 @@ use Rattle.replay_parts.specs.Checkpoint.{Checkpoint}
 use Rattle.session.specs.declared.report.Report.{Report}
 use Rattle.session.specs.declared.report.Report.TheVariants.{Answers, Changes}
 use Rattle.session.specs.declared.stop.Halt.TheVariants.{Unprinted}
-use Rattle.session.specs.Along.{along, state_along, steps_of_delivery, stream_text_from, version_since}
-use Rattle.session.specs.Course.{Course}
+use Rattle.session.specs.Course.{along, state_along, steps_of_delivery, stream_text_from, version_since, Course}
 use Rattle.session.specs.Moment.{Beginning, Environment, Stage}
-use Rattle.session.specs.Report.{BreaksOffBy, HasReported, HasReportedAt, TellsBy, TellsStepBy, bytes_of}
-use Rattle.session.specs.Taking.{IsHeldUp}
+use Rattle.session.specs.Report.{HasReported, HasReportedAt, bytes_of}
+use Rattle.session.specs.Delivering.{BreaksOffBy, TellsBy, TellsStepBy, IsHeldUp}
 use Rattle.session.proofs.Along.{along-push, version-along}
 
 -- ---- due events
@@ -164,7 +163,7 @@ pub unprinted_held_up : (report : Report) (why : Unwritten) (environment : Envir
     IsHeldUp (Unprinted why) environment old now
 unprinted_held_up Answers why environment reported s old now middle more never = absurd never
 unprinted_held_up Changes WriteFault environment reported s old now middle more tells = omega (arith, more, (tells.outcome.1.failed refl).1)
-unprinted_held_up Changes NoMemory environment reported s old now middle more tells = tt
+unprinted_held_up Changes OutOfMemory environment reported s old now middle more tells = tt
 
 -- ---- remapped pages
 

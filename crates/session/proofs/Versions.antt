@@ -17,8 +17,7 @@ use Rattle.world.specs.Roomed.{HasRoom, room_with}
 use Rattle.world.specs.WorldState.{AreHolders, WorldState, first_of, next_stale, remapped, by_two_after, stale, triples_anew, triples_of}
 use Rattle.world.specs.declared.applied.Applied.{Applied}
 use Rattle.world.proofs.OneVersion.{applied_by_one}
-use Rattle.session.specs.Needed.{HaveRoom, HaveRoomBefore, needed_anew, needed_by_pages}
-use Rattle.session.specs.Remapping.{HoldsWithin, IsFullOfStale, KeepsVersion, Mapped, held_triples, mapped_by, mapped_in, remapped_in, remapped_some}
+use Rattle.session.specs.Remapping.{HaveRoom, HaveRoomBefore, needed_anew, needed_by_pages, IsFullOfStale, KeepsVersion, Mapped, held_triples, mapped_by, mapped_in, remapped_in, remapped_some}
 use Rattle.session.proofs.Needed.{all_met, first_met, remapped_has_room}
 
 -- where every page is mapped by one version, the triples of all that is held are the union by this version
@@ -35,21 +34,10 @@ applies-versions contents folder old new applied a same by_two version is =
     ap (λ xs. record { version = new.mapping; by_two = xs }) (applied_by_one contents folder old new applied a same by_two one)
     ∙ ap (λ v. mapped_by v new.replay.played.records) (same ∙ mapping)
 
--- what has room has it where nothing of it changes
-pub holds_still : (limit : ℕ) (old new : WorldState) → new.replay.played.records ≡ old.replay.played.records → mapped_in new ≡ mapped_in old → HoldsWithin limit old → HoldsWithin limit new
-holds_still limit old new records versions held =
-    subst (λ xs. HasRoom (meaning_by meaning xs) limit new.replay.played.records) (sym (ap (λ (m : Mapped). m.by_two) versions))
-    (subst (HasRoom (meaning_by meaning old.by_two) limit) (sym records) held)
-
 -- versions are kept by one step and then by others
 pub keeps-further : (old between new : WorldState) → KeepsVersion (mapped_in old) (mapped_in between) old.replay.played.records between.replay.played.records →
     KeepsVersion (mapped_in between) (mapped_in new) between.replay.played.records new.replay.played.records → KeepsVersion (mapped_in old) (mapped_in new) old.replay.played.records new.replay.played.records
 keeps-further old between new first by_two version is = by_two version (first version is)
-
--- and by a step that changes nothing
-pub keeps-still : (old between new : WorldState) → new ≡ between → KeepsVersion (mapped_in old) (mapped_in between) old.replay.played.records between.replay.played.records →
-    KeepsVersion (mapped_in old) (mapped_in new) old.replay.played.records new.replay.played.records
-keeps-still old between new same keeps = rw same keeps
 
 -- where there are some, there is a first
 pub first_there : {A : Type 0} (P : Type 0) (xs : List A) (o : Option A) → 0 < length xs → o ≡ first_of xs → IfSome o (λ _. P) → P
@@ -101,7 +89,6 @@ pub record Remaps (version : MappingVersion) (old now : WorldState) : Type 0 whe
   pub steps : ℕ
   pub mapped : mapped_in now ≡ remapped_some steps old.replay.played.records (record { version = version; by_two = old.by_two })
   pub version_is : now.mapping ≡ version
-  pub held : HoldsWithin old.limit old → HoldsWithin old.limit now
   pub holders : AreHolders now.by_two now.replay.played.records
   pub roomed : HaveRoomBefore old.limit (needed_anew now.replay.played.records (mapped_in now)) (needed_anew old.replay.played.records (record { version = version; by_two = old.by_two }))
 
@@ -113,21 +100,19 @@ remaps_none version old now is are = record {
   steps = 0;
   mapped = ap mapped_in is;
   version_is = ap (λ (w : WorldState). w.mapping) is;
-  held = λ held. subst (HoldsWithin old.limit) (sym is) held;
   holders = are;
   roomed = first_met old.limit _ _ [] (ap (λ (w : WorldState). needed_anew w.replay.played.records (mapped_in w)) (sym is)) tt;
 }
 
 -- and one more
-pub remaps_next : (version : MappingVersion) (old now new : WorldState) → Remaps version old now → new ≡ remapped now → HoldsWithin new.limit new → AreHolders new.by_two new.replay.played.records →
+pub remaps_next : (version : MappingVersion) (old now new : WorldState) → Remaps version old now → new ≡ remapped now → AreHolders new.by_two new.replay.played.records →
     room_with (meaning_by meaning now.by_two) now.replay.played.records (triples_anew now) ≤ now.limit → Remaps version old new
-remaps_next version old now new so_far is held are within = record {
+remaps_next version old now new so_far is are within = record {
   replay = ap (λ (w : WorldState). w.replay) is ∙ so_far.replay;
   limit = ap (λ (w : WorldState). w.limit) is ∙ so_far.limit;
   steps = suc so_far.steps;
   mapped = ap mapped_in is ∙ ap (λ (w : ReplayState). remapped_in w.played.records (mapped_in now)) so_far.replay ∙ ap (remapped_in old.replay.played.records) so_far.mapped;
   version_is = ap (λ (w : WorldState). w.mapping) is ∙ so_far.version_is;
-  held = λ before. subst (λ n. HoldsWithin n new) (ap (λ (w : WorldState). w.limit) is ∙ so_far.limit) held;
   holders = are;
   roomed = subst (λ (w : WorldState). HaveRoomBefore old.limit (needed_anew w.replay.played.records (mapped_in w)) (needed_anew old.replay.played.records (record { version = version; by_two = old.by_two }))) (sym is)
       (remapped_has_room old.limit _ now so_far.holders.rising (subst (λ n. room_with (meaning_by meaning now.by_two) now.replay.played.records (triples_anew now) ≤ n) so_far.limit within) so_far.roomed);

@@ -1,18 +1,103 @@
--- Plays, and which bytes an output has then.
-use Rattle.std.specs.Prelude.{ℕ, Bool, true, false, List, ◌++◌, Option}
+-- What deliveries make, one after the other; how questions are answered; and plays, and which bytes an output has then.
+use Rattle.std.specs.Prelude.{ℕ, Bool, true, false, List, ◌++◌, Option, ◌+◌, [], None, Some, ◌∷◌, fold, filter, flat_map}
 use Rattle.std.specs.Option.{option_to_list}
 use Rattle.wq_io.specs.Streams.{after_known}
 use Rattle.delivery.specs.declared.Delivery.{Delivery}
 use Rattle.entity_model.specs.declared.mapping.MappingVersion.{MappingVersion}
-use Rattle.replay_model.specs.Play.{Fetch, Replies}
-use Rattle.replay_model.specs.ReplayState.{ReplayState, after_end, ended, fetches_due}
-use Rattle.replay_model.specs.Transcript.{Sections}
+use Rattle.replay_model.specs.Play.{Fetch, Replies, Played}
+use Rattle.replay_model.specs.ReplayState.{ReplayState, after_end, ended, fetches_due, after_mark, fetches_delivered}
+use Rattle.replay_model.specs.Transcript.{Sections, Question, answer_section, closing_text, for_bindings, for_triples, question_of}
 use Rattle.graph_routes.specs.declared.routes.Route.{Route}
-use Rattle.patch_stream.specs.Stream.{Step, steps_due}
-use Rattle.session.specs.Along.{along, fetches_of_delivery, state_along, steps_of_delivery, version_since}
-use Rattle.session.specs.Answering.{closing_by, said_by}
+use Rattle.patch_stream.specs.Stream.{Step, steps_due, is_change, numbered_from, steps_anew}
 use Rattle.session.specs.Moment.{Beginning, standing}
-use Rattle.session.specs.Needed.{needed_of_delivery, needed_by_due}
+use Rattle.session.specs.Remapping.{needed_of_delivery, needed_by_due, Mapped}
+use Rattle.rdf_term.specs.declared.triple.Triple.{Triple}
+use Rattle.rdf_term.specs.Order.{triple_cmp}
+use Rattle.rdf_term.specs.Pattern.{rows}
+use Rattle.replay_model.specs.Records.{Records}
+use Rattle.replay_model.specs.Union.{Meaning, union}
+use Rattle.replay_model.specs.Versions.{meaning_by, all_by}
+use Rattle.subgraph.specs.Laws.{routed_union}
+use Rattle.world.specs.Meaning.{meaning}
+use Rattle.transcript.specs.Sections.{closing_of}
+use Rattle.splitting.specs.Graphs.{routing_by}
+use Rattle.splitting.specs.Sections.{graph_answers, graph_sections}
+use Rattle.replay_parts.specs.Checkpoint.{Checkpoint, advanced, advanced_by, version_after}
+use Rattle.delivery.specs.declared.Delivery.TheVariants.{Event as Told, Watermark, Ask, Mapping, Match}
+use Rattle.replica.specs.Record.{record_text}
+
+-- what each delivery makes, from a checkpoint on
+abbrev pub along : {A : Type 0} → (Replies → Checkpoint → Delivery → List A) → Replies → Checkpoint → List Delivery → List A
+along made replies c [] = []
+along made replies c (d ∷ ds) = made replies c d ++ along made replies (advanced replies c d) ds
+
+-- the state after these deliveries
+abbrev pub state_along : Replies → Checkpoint → List Delivery → ReplayState
+state_along replies c ds = (advanced_by replies c ds).state
+
+-- the version of the mapping that is in force after these deliveries, where this one was
+abbrev pub version_since : MappingVersion → List Delivery → MappingVersion
+version_since version ds = fold version_after version ds
+
+-- the fetches of a delivery
+abbrev pub fetches_of_delivery : Replies → Checkpoint → Delivery → List Fetch
+fetches_of_delivery replies c d = fetches_delivered replies c.state d
+
+-- the steps of a delivery: a watermark applies what it makes due, by the version in force, and a line that brings a version maps by it all
+-- that is held, which is mapped by the version in force before
+abbrev pub steps_of_delivery : Replies → Checkpoint → Delivery → List Step
+steps_of_delivery replies c (Told e) = []
+steps_of_delivery replies c (Watermark m) = steps_due c.version replies (after_mark c.state m)
+steps_of_delivery replies c (Ask q) = []
+steps_of_delivery replies c (Match q) = []
+steps_of_delivery replies c (Mapping v) = steps_anew v c.state.played.records (all_by c.version c.state.played.records)
+
+-- the texts of the records of steps, behind so many records
+abbrev pub stream_text_from : ℕ → List Step → List ℕ
+stream_text_from told steps = flat_map record_text (numbered_from (told + 1) (filter is_change steps))
+
+-- ---- answers
+
+-- the answer to a question over these triples of each graph, where so many asks were answered before it: each graph answers an ask, and a
+-- match is passed over
+abbrev pub answer_of_graphs : List Route → ℕ → (ℕ → List Triple) → Question → List ℕ
+answer_of_graphs routes asked triples (for_triples pattern) = graph_answers routes (asked + 1) (λ graph. rows (triples graph) pattern)
+answer_of_graphs routes asked triples (for_bindings shapes) = []
+
+-- the answer to a question behind so many asks and so many matches, where this is what the pages mean that are held: that of all pages
+-- together, or that of each graph
+abbrev pub answer_text : Option (List Route) → ℕ → ℕ → Meaning Triple → Records → Question → List ℕ
+answer_text None asked matched m records question = answer_section asked matched (union triple_cmp m records) question
+answer_text (Some known) asked matched m records question = answer_of_graphs known asked (λ graph. routed_union (routing_by known) m records graph) question
+
+-- the same where pages are mapped by these versions
+abbrev pub answer_held : Option (List Route) → ℕ → ℕ → Mapped → Records → Question → List ℕ
+answer_held routes asked matched mapped records question = answer_text routes asked matched (meaning_by meaning mapped.by_two) records question
+
+-- the answer to a question that is asked at a checkpoint, if one is
+abbrev pub answer_by : Option (List Route) → Checkpoint → Option Question → List ℕ
+answer_by routes c None = []
+answer_by routes c (Some question) = answer_text routes c.asked c.matched (meaning c.version) c.state.played.records question
+
+-- the answer to a delivery, if it asks
+abbrev pub answer_of_delivery : Option (List Route) → Replies → Checkpoint → Delivery → List ℕ
+answer_of_delivery routes replies c d = answer_by routes c (question_of d)
+
+-- what is said at the deliveries, from a checkpoint on
+abbrev pub said_by : Option (List Route) → Replies → Checkpoint → List Delivery → List ℕ
+said_by routes replies c ds = along (answer_of_delivery routes) replies c ds
+
+-- what is printed after the end, where this version is in force: the sections that are asked for, or the triples of each graph
+abbrev pub closing_by : Option (List Route) → MappingVersion → Sections → Played → List ℕ
+closing_by None version sections p = closing_text meaning version sections p
+closing_by (Some known) version sections p = graph_sections known (λ graph. routed_union (routing_by known) (meaning version) p.records graph)
+
+-- the same of what is held, where this is what its pages mean
+abbrev pub closing_held : Option (List Route) → Meaning Triple → Sections → Played → List ℕ
+closing_held None m sections p = closing_of (union triple_cmp m p.records) sections p
+closing_held (Some known) m sections p = graph_sections known (λ graph. routed_union (routing_by known) m p.records graph)
+
+-- ---- plays
 
 -- a play, by the replies to its fetches: where it leads, what it fetches, for how many terms it needs room one time after the other, its
 -- steps, and which bytes the output has then where questions are answered; the version of the mapping that is in force there, and whether

@@ -11,8 +11,8 @@ use Rattle.drill_replay.specs.Playing.{Counted, IsByFirst}
 use Rattle.session.specs.declared.drill_playing.DrillRun.{DrillRun}
 use Rattle.session.specs.declared.report.Report.TheVariants.{Answers}
 use Rattle.session.specs.Moment.{Beginning, Environment, IsFirst, Stage}
-use Rattle.session.specs.Remapping.{HoldsWithin, mapped_in}
-use Rattle.session.specs.Taking.{AtRest}
+use Rattle.session.specs.Remapping.{mapped_in}
+use Rattle.session.specs.Delivering.{AtRest}
 
 -- what the pages of a drill tell, the same in every folder
 abbrev pub told_of : ℕ → Option Contents
@@ -35,10 +35,8 @@ pub record HasTakenFirst (run : DrillRun) (ds : List Delivery) (out : Output) (w
   pub at_rest : AtRest (drill_environment run.size) ds 0 start (drill_stage run.pages out world)
   pub counted : Counted ds run.counts
   pub limit : world.limit ≡ 20000000
-  pub held : HoldsWithin 20000000 world
 
--- what a drill leaves wherever it stops: all that is held is mapped by the first version, and stays within the limit of every drill
+-- what a drill leaves wherever it stops: all that is held is mapped by the first version, and the limit is that of every drill
 pub record LeavesDrill (world : WorldState) : Type 0 where
   pub first : IsByFirst world
   pub limit : world.limit ≡ 20000000
-  pub held : HoldsWithin 20000000 world

@@ -18,12 +18,12 @@ use Rattle.replay_model.specs.Fate.{events_of, fate, in_order}
 use Rattle.replay_model.specs.Records.{Bytes, is_settled, record_of}
 use Rattle.replay_model.specs.Play.{Replies}
 use Rattle.replay_model.specs.Replies.{GivesDocument, HoldsWhatIsThere, TellsWhatIsThere, failed_events, source_replies}
-use Rattle.replay_model.specs.ReplayState.{ReplayState}
+use Rattle.replay_model.specs.ReplayState.{ReplayState, after_end}
 use Rattle.replay_model.specs.Transcript.{Question, asking, asks, matches}
 use Rattle.replay_model.specs.Versions.{all_by}
 use Rattle.world.specs.Meaning.{meaning}
 use Rattle.text_output.specs.declared.write.Unwritten.{Unwritten}
-use Rattle.text_output.specs.declared.write.Unwritten.TheVariants.{WriteFault as NotWritten, OutOfMemory as Refused}
+use Rattle.text_output.specs.declared.write.Unwritten.TheVariants.{WriteFault as NotWritten, OutOfMemory as UnwrittenOutOfMemory}
 use Rattle.text_output.specs.Printing.{IsCutShort, Output}
 use Rattle.replica.specs.Record.{record_text}
 use Rattle.patch_stream.specs.Stream.{Step, changes, is_change, record_of_step, steps_anew}
@@ -31,23 +31,44 @@ use Rattle.checkpoint.specs.declared.numbers.Numbers.{Numbers}
 use Rattle.words.specs.Options.{closes, max_bytes_of}
 use Rattle.session.specs.declared.report.Report.TheVariants.{Answers, Changes}
 use Rattle.session.specs.declared.stop.Halt.TheVariants.{Unapplied, Unprinted}
-use Rattle.session.specs.declared.status.Status.{Status}
 use Rattle.session.specs.declared.stop.Stop.{Stop}
 use Rattle.session.specs.declared.stop.Stop.TheVariants.{BadLine, ReadFault, WriteFault, TooLong, StoreFull, OutOfMemory, BadSnapshot}
-use Rattle.term_pool.specs.declared.fault.PoolFault.TheVariants.{Full as NoRoom, OutOfMemory as Starved}
-use Rattle.session.specs.Answering.{answer_text, closing_by}
-use Rattle.session.specs.Counts.{HasCounted}
-use Rattle.session.specs.Course.{Course, course_after, course_ended, course_printed, course_remapping, version_at}
-use Rattle.session.specs.Moment.{Beginning, IsFirst, Moment, Run, Environment, Stage, horizon_at, start_of, with_mapped, with_output}
-use Rattle.session.specs.Needed.{HaveRoom, HaveRoomBefore, needed_anew}
-use Rattle.session.specs.Reading.{AreDeliveries, AreFirstAlone, AreWhole, IsPastLimit, IsRefusedLine, TakesByNeed}
-use Rattle.session.specs.Remapping.{IsFullOfStale, mapped_by, remapped_some}
+use Rattle.term_pool.specs.declared.fault.PoolFault.TheVariants.{Full as NoRoom, OutOfMemory as StoreOutOfMemory}
+use Rattle.session.specs.Course.{answer_text, closing_by, Course, course_after, course_ended, course_printed, course_remapping, version_at, course_begun, course_to_end, led_to}
+use Rattle.session.specs.Moment.{HasCounted, Beginning, IsFirst, Moment, Run, Environment, Stage, horizon_at, start_of, with_mapped, with_output, sections_of, HasSaved, numbers_of, snapshot_text}
+use Rattle.session.specs.Remapping.{HaveRoom, HaveRoomBefore, needed_anew, IsFullOfStale, mapped_by, remapped_some}
+use Rattle.session.specs.Reading.{AreDeliveries, AreFirstAlone, AreWhole, IsPastLimit, IsRefusedLine, TakesByNeed, AreFirst}
 use Rattle.session.specs.Report.{bytes_of}
-use Rattle.session.specs.Saving.{HasSaved, numbers_of, snapshot_text}
-use Rattle.session.specs.Sections.{sections_of}
-use Rattle.session.specs.Stop.{stop_of, stop_of_unwritten}
-use Rattle.session.specs.Stops.{IsHalted}
-use Rattle.session.specs.Taking.{HoldsDocuments, IsFull, judgement, replies_there}
+use Rattle.session.specs.Stop.{stop_of_unwritten}
+use Rattle.session.specs.Taking.{HoldsDocuments, IsFull, judgement, replies_there, IsEventOrMark, IsWithin, entered_if_any}
+use Rattle.std.specs.Option.{option_to_list}
+use Rattle.session.specs.declared.stop.Halt.{Halt}
+
+-- at a line: the world of the first lines of what was taken, of which the last is perhaps an event, or a watermark with some of the events
+-- that it makes due, behind which no byte was judged; every page is mapped by the version in force
+pub record StopsWithin (halt : Halt) (run : Run) (before now : Moment) : Type 0 where
+  pub deliveries : List Delivery
+  pub last : Option Delivery
+  pub kind : IfSome last IsEventOrMark
+  pub within : IsWithin halt run.environment (course_begun run.environment.routes deliveries last (start_of run before)) (λ replies. entered_if_any (led_to deliveries (start_of run before) replies) last) (start_of run before) now.stage
+  pub mapped : now.stage.mapped ≡ mapped_by (version_at deliveries (start_of run before)) now.stage.world.played.records
+  pub first : AreFirst (max_bytes_of run.choices) before.input.left now.input.left (deliveries ++ option_to_list last)
+  pub alone : (d : Delivery) → last ≡ Some d → first.part ≡ []
+
+-- after the last line, the input being read to its end: the world of all lines and the end, with some of the events that the end
+-- makes due; every page is mapped by the version in force
+pub record StopsAtEnd (halt : Halt) (run : Run) (before now : Moment) : Type 0 where
+  pub deliveries : List Delivery
+  pub read : IsAtEnd now.input.left
+  pub within : IsWithin halt run.environment (course_to_end run.environment.routes deliveries (start_of run before)) (λ replies. after_end (led_to deliveries (start_of run before) replies)) (start_of run before) now.stage
+  pub mapped : now.stage.mapped ≡ mapped_by (version_at deliveries (start_of run before)) now.stage.world.played.records
+  pub are : IfSome before.input.left (λ bytes. AreDeliveries (max_bytes_of run.choices) bytes deliveries)
+
+-- what stands if memory was refused, or the store was full, or a record wasn't written wholly, while no page was being remapped
+abbrev pub IsHalted : Halt → Run → Moment → Moment → Type 0
+IsHalted halt run before now = StopsWithin halt run before now ⊎ StopsAtEnd halt run before now
+
+-- ---- what a run leaves
 
 -- the play of a course from a beginning
 pub record IsPlayed (environment : Environment) (course : Course) (start : Beginning) (now : Stage) : Type 0 where
@@ -127,12 +148,6 @@ pub record Replayed (run : Run) (course : List Delivery → Beginning → Course
 -- nothing else
 abbrev pub HasReplayed : Run → Moment → Moment → Type 0
 HasReplayed run before now = Replayed run (course_ended run.environment.routes (closes run.choices)) before now
-
--- the same, and where the world is saved, these are the counts of what was reported
-pub record HasTakenAll (run : Run) (numbers : Numbers) (before now : Moment) : Type 0 where
-  pub replayed : HasReplayed run before now
-  pub counted : closes run.choices ≡ false →
-      numbers ≡ numbers_of run.environment.report (course_ended run.environment.routes (closes run.choices) replayed.deliveries (start_of run before)).steps replayed.deliveries (start_of run before) replayed.replay.played.replies
 
 -- the play of these deliveries that a run makes, with the sections that it prints
 abbrev pub course_of : Run → List Delivery → Beginning → Course
@@ -259,8 +274,8 @@ Stopped StoreFull run before now =
     (IsFull run.environment now.stage.world now.stage.mapped × IsHalted (Unapplied NoRoom) run before now)
     ⊎ (IsFullOfStale run.environment.limit now.stage.world.played.records now.stage.mapped × StandsAtMapping run before now)
 Stopped OutOfMemory run before now =
-    ((IsHalted (Unapplied Starved) run before now ⊎ StandsAtMapping run before now) ⊎ IsInterrupted Refused run before now)
-    ⊎ Unsaved Refused run before now
+    ((IsHalted (Unapplied StoreOutOfMemory) run before now ⊎ StandsAtMapping run before now) ⊎ IsInterrupted UnwrittenOutOfMemory run before now)
+    ⊎ Unsaved UnwrittenOutOfMemory run before now
 Stopped (BadSnapshot number) run before now = ⊥
 
 -- a run that stopped left the snapshot that it writes as it was, or stopped while it wrote it
@@ -269,8 +284,8 @@ LeavesSnapshot stop run before now = (now.snapshot ≡ before.snapshot) ⊎ ((wh
 
 -- what a replay that was begun leaves: it ended with Ok or stopped for a cause; what it took of its input is bounded; it wrote nothing into
 -- the snapshot before all else was written, and read nothing of the one that it goes on from
-pub record ReplayEnding (status : Status) (run : Run) (before now : Moment) : Type 0 where
-  pub outcome : MatchOption (stop_of status) (Ending run before now) (λ stop. Stopped stop run before now)
+pub record ReplayEnding (stopped : Option Stop) (run : Run) (before now : Moment) : Type 0 where
+  pub outcome : MatchOption stopped (Ending run before now) (λ stop. Stopped stop run before now)
   pub taken : IfSome before.input.left (λ bytes. TakesByNeed (max_bytes_of run.choices) bytes now.input.left before.last_read now.last_read)
-  pub snapshot : IfSome (stop_of status) (λ stop. LeavesSnapshot stop run before now)
+  pub snapshot : IfSome stopped (λ stop. LeavesSnapshot stop run before now)
   pub resumed : now.resumed ≡ before.resumed

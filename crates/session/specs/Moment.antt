@@ -1,7 +1,7 @@
--- A run, and what stands at a moment of it.
-use Rattle.std.specs.Prelude.{◌≡◌, ℕ, List, [], Option}
+-- A run, what stands at a moment of it, and what is saved of it.
+use Rattle.std.specs.Prelude.{◌≡◌, ℕ, List, [], Option, ◌⊎◌, ◌+◌, ◌-◌, ◌^◌, ◌<◌, ◌≤◌, length, Bool, true, false}
 use Rattle.std.specs.Option.{option_map}
-use Rattle.wq_io.specs.Streams.{LastRead}
+use Rattle.wq_io.specs.Streams.{LastRead, after_known}
 use Rattle.wq_io.specs.declared.source.Source.{Ghosts as SourceOf}
 use Rattle.wq_io.specs.declared.sink.Sink.{Ghosts as SinkOf}
 use Rattle.revisions.specs.declared.revisions.Revisions.{Ghosts as RevisionsOf}
@@ -17,9 +17,80 @@ use Rattle.checkpoint.specs.declared.numbers.Numbers.{Numbers}
 use Rattle.session.specs.declared.ports.Ports.{Ports}
 use Rattle.session.specs.declared.report.Report.{Report}
 use Rattle.graph_routes.specs.declared.routes.Route.{Route}
-use Rattle.session.specs.Counts.{SourceCounts, counts}
 use Rattle.session.specs.Remapping.{Mapped, mapped_in}
 use Rattle.words.specs.Options.{Choices, folder_of, max_terms_of}
+use Rattle.side_output.specs.declared.entry.Entry.{Entry}
+use Rattle.replay_model.specs.Play.{risen_by, Replies}
+use Rattle.replay_model.specs.Replies.{failed_events, missing_events}
+use Rattle.session.specs.declared.stop.Halt.{Halt}
+use Rattle.session.specs.declared.stop.Halt.TheVariants.{Unapplied as NotApplied, Unprinted}
+use Rattle.term_pool.specs.declared.fault.PoolFault.{PoolFault as StoreFault}
+use Rattle.term_pool.specs.declared.fault.PoolFault.TheVariants.{Full, OutOfMemory}
+use Rattle.replay_model.specs.Transcript.{Sections, asks, matches}
+use Rattle.delivery.specs.declared.Delivery.{Delivery}
+use Rattle.patch_stream.specs.Stream.{Step, changes}
+use Rattle.snapshot.specs.File.{file_text}
+use Rattle.snapshot.specs.Whole.{Saved}
+use Rattle.session.specs.declared.report.Report.TheVariants.{Answers, Changes}
+
+-- how many calls a source of revisions had, how many of them found nothing, and how many failed
+pub record SourceCounts : Type 0 where
+  pub calls : ℕ
+  pub misses : ℕ
+  pub faults : ℕ
+
+-- the counts of a source of revisions
+abbrev pub counts : {R : Type 0} → RevisionsOf R → R → SourceCounts
+counts members revisions = record { calls = members.calls revisions; misses = members.misses revisions; faults = members.faults revisions }
+
+-- a counter rose by at least n, or is saturated
+abbrev pub RoseBy : ℕ → ℕ → ℕ → Type 0
+RoseBy n before now = now < 2 ^ 64 - 1 → before + n ≤ now
+
+-- the calls rose by the fetches that were made, as far as 64 bits count them; the faults rose at least by the failed
+-- fetches that the side output names and didn't name before, and so did the misses by the missing revisions
+pub record HasCounted (start now : SourceCounts) (before : List Entry) (made : ℕ) (side : List Entry) : Type 0 where
+  pub calls : now.calls ≡ risen_by made start.calls
+  pub failed : RoseBy (length (failed_events side)) start.faults (length (failed_events before) + now.faults)
+  pub missing : RoseBy (length (missing_events side)) start.misses (length (missing_events before) + now.misses)
+
+-- the same if an event wasn't applied: if there is no room, one more fetch was made, which gave its page; if memory was refused, perhaps
+-- one more
+abbrev pub HasCountedUnapplied : StoreFault → SourceCounts → SourceCounts → List Entry → ℕ → List Entry → Type 0
+HasCountedUnapplied Full start now before made side = HasCounted start now before (made + 1) side
+HasCountedUnapplied OutOfMemory start now before made side = HasCounted start now before made side ⊎ HasCounted start now before (made + 1) side
+
+-- the same where a delivery wasn't taken wholly; an event that was applied and wasn't told is counted like any other
+abbrev pub HasCountedAt : Halt → SourceCounts → SourceCounts → List Entry → ℕ → List Entry → Type 0
+HasCountedAt (NotApplied why) start now before made side = HasCountedUnapplied why start now before made side
+HasCountedAt (Unprinted why) start now before made side = HasCounted start now before made side
+
+-- a source was asked further: its contents and the most calls that ever fail are the same, and no failure counter decreased
+pub record HasGoneOn {R : Type 0} (members : RevisionsOf R) (old new : R) : Type 0 where
+  pub known : members.contents new ≡ members.contents old
+  pub faults : members.faults old ≤ members.faults new
+  pub misses : members.misses old ≤ members.misses new
+  pub most : members.most_faults new ≡ members.most_faults old
+
+-- an output was written further: the most calls that ever fail are the same, and the failure counter didn't decrease
+pub record HasWrittenOn {K : Type 0} (members : SinkOf K) (old new : K) : Type 0 where
+  pub faults : members.faults old ≤ members.faults new
+  pub most : members.most_faults new ≡ members.most_faults old
+
+-- an input was read further: the same
+pub record HasReadOn {S : Type 0} (members : SourceOf S) (old new : S) : Type 0 where
+  pub faults : members.faults old ≤ members.faults new
+  pub most : members.most_faults new ≡ members.most_faults old
+
+-- each of the five ports was used further
+pub record HaveGoneOn {S R K F : Type 0} (input : SourceOf S) (source : RevisionsOf R) (sink : SinkOf K) (file : SinkOf F) (old new : Ports S R K F) : Type 0 where
+  pub events : HasReadOn input old.events new.events
+  pub revisions : HasGoneOn source old.revisions new.revisions
+  pub out : HasWrittenOn sink old.out new.out
+  pub snapshot : HasWrittenOn file old.snapshot new.snapshot
+  pub resumed : HasReadOn input old.resumed new.resumed
+
+-- ---- moments
 
 -- the environment of the deliveries: what the source of revisions has in its folder, if it is known, the limit on distinct terms, what is
 -- reported, and by which routes pages go to graphs, if they are routed
@@ -141,3 +212,36 @@ run_of routes report contents choices = record {
 -- the same run behind earlier ones that left these counts
 abbrev pub behind : Numbers → Run → Run
 behind numbered run = record { choices = run.choices; environment = run.environment; numbered = numbered }
+
+-- ---- what is printed at the end
+
+-- the sections that the options ask for
+abbrev pub sections_of : Choices → Sections
+sections_of c = record { export = c.export; state = c.state; side = c.side }
+
+-- ---- what is saved
+
+-- the counts that a later run goes on with, where earlier runs left these, so many asks were answered or records written, and so many
+-- matches were delivered
+abbrev pub numbers_after : Numbers → Report → ℕ → ℕ → Numbers
+numbers_after earlier Answers reported matched = record { asks = reported; matches = matched; patches = earlier.patches }
+numbers_after earlier Changes reported matched = record { asks = earlier.asks; matches = earlier.matches; patches = reported }
+
+-- how many questions were answered, with these deliveries and those of earlier runs, or how many records of changes were written, with
+-- those of these steps
+abbrev pub numbers_of : Report → (Replies → List Step) → List Delivery → Beginning → Replies → Numbers
+numbers_of Answers steps ds start replies = numbers_after start.numbered Answers (start.numbered.asks + asks ds) (start.numbered.matches + matches ds)
+numbers_of Changes steps ds start replies = numbers_after start.numbered Changes (start.numbered.patches + changes (steps replies)) start.numbered.matches
+
+-- what is saved of a stage with these counts
+abbrev pub saved_at : Stage → Numbers → Saved
+saved_at now numbers = record { version = now.mapped.version; asks = numbers.asks; matches = numbers.matches; patches = numbers.patches; state = now.world }
+
+-- the snapshot of a stage with these counts
+abbrev pub snapshot_text : Numbers → Stage → List ℕ
+snapshot_text numbers now = file_text (saved_at now numbers)
+
+-- with `--save` these bytes were written as the snapshot; without it nothing was
+abbrev pub HasSaved : Bool → List ℕ → Output → Output → Type 0
+HasSaved true text old new = new ≡ old
+HasSaved false text old new = new.bytes ≡ after_known old.bytes text

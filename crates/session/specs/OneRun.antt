@@ -1,5 +1,5 @@
 -- Runs that go on from one another, and one replay of all their deliveries.
-use Rattle.std.specs.Prelude.{◌≡◌, ℕ, Bool, true, false, List, [], ◌++◌, Option, Some}
+use Rattle.std.specs.Prelude.{◌≡◌, ℕ, Bool, true, false, List, [], ◌++◌, Option, None, Some}
 use Rattle.delivery.specs.declared.Delivery.{Delivery}
 use Rattle.replay_model.specs.Acceptance.{late, mark, version_in_force}
 use Rattle.replay_model.specs.Entries.{HoldsUnlessOpen, late_events}
@@ -13,12 +13,10 @@ use Rattle.world.specs.Meaning.{meaning}
 use Rattle.checkpoint.specs.declared.numbers.Numbers.{Numbers}
 use Rattle.snapshot.specs.File.{IsFitSaved}
 use Rattle.words.specs.Options.{closes}
-use Rattle.session.specs.declared.status.Status.TheVariants.{Ok as Ended}
-use Rattle.session.specs.Answering.{closing_by, said_by}
+use Rattle.session.specs.Course.{closing_by, said_by}
 use Rattle.session.specs.Headline.{Ending, numbers_saved}
-use Rattle.session.specs.Moment.{Beginning, IsFirst, Moment, Run, horizon_at, start_of}
+use Rattle.session.specs.Moment.{Beginning, IsFirst, Moment, Run, horizon_at, start_of, saved_at}
 use Rattle.session.specs.Resuming.{IsResumed}
-use Rattle.session.specs.Saving.{saved_at}
 use Rattle.session.specs.Taking.{HoldsDocuments}
 
 -- a run begins where a replay of these deliveries stands
@@ -78,7 +76,7 @@ pub record TwoRuns (one two : Run) (before_one now_one before_two now_two : Mome
   pub empty : before_one.snapshot.bytes ≡ Some []
   pub fit : IsFitSaved (saved_at now_one.stage (numbers_saved first))
   pub same : before_two.resumed.left ≡ now_one.snapshot.bytes
-  pub second : IsResumed Ended two before_two now_two
+  pub second : IsResumed None two before_two now_two
 
 module _ {one two : Run} {before_one now_one before_two now_two : Moment} where
   -- the horizon of both

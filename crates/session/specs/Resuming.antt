@@ -1,5 +1,5 @@
 -- What a run leaves that goes on from a snapshot.
-use Rattle.std.specs.Prelude.{◌≡◌, ◌⊎◌, ℕ, List, Option, Some, IfSome}
+use Rattle.std.specs.Prelude.{◌≡◌, ◌⊎◌, ℕ, List, Option, None, Some, IfSome, IsSome}
 use Rattle.wq_io.specs.Streams.{IsAtEnd}
 use Rattle.world.specs.WorldState.{WorldState}
 use Rattle.snapshot.specs.File.{saved_in_bytes}
@@ -10,11 +10,11 @@ use Rattle.checkpoint.specs.Causes.{HasCause}
 use Rattle.checkpoint.specs.Saved.{AreWithin, saved_of, world_of}
 use Rattle.following.specs.Input.{Input}
 use Rattle.words.specs.Options.{Choices, max_terms_of}
-use Rattle.session.specs.declared.status.Status.{Status}
+use Rattle.session.specs.declared.stop.Stop.{Stop}
 use Rattle.session.specs.Headline.{ReplayEnding}
-use Rattle.session.specs.Moment.{Moment, Run, behind, stage_in}
+use Rattle.session.specs.Moment.{Moment, Run, behind, stage_in, world_at_start}
 use Rattle.session.specs.Remapping.{HoldsWithin, mapped_in}
-use Rattle.session.specs.Stop.{stop_of, stop_of_load}
+use Rattle.session.specs.Stop.{stop_of_load}
 use Rattle.session.specs.Taking.{IsStanding}
 
 -- these bytes are the snapshot of this world with these counts, where there is room for so many terms. Whoever made them, the world is one
@@ -42,9 +42,9 @@ abbrev pub IsRefusedFor : LoadFault → Choices → Option (List ℕ) → ℕ �
 IsRefusedFor fault choices left before now = HasCause fault (max_terms_of choices) left before now ⊎ ((fault ≡ BadLine 1) × HasOtherHorizon choices left)
 
 -- the run didn't go on from the snapshot, for a cause: the input is unread, nothing was written, and the world is as it was
-pub record IsNotResumed (status : Status) (run : Run) (before now : Moment) : Type 0 where
+pub record IsNotResumed (stopped : Option Stop) (run : Run) (before now : Moment) : Type 0 where
   pub fault : LoadFault
-  pub is : stop_of status ≡ Some (stop_of_load fault)
+  pub is : stopped ≡ Some (stop_of_load fault)
   pub cause : IsRefusedFor fault run.choices before.resumed.left before.resumed.faults now.resumed.faults
   pub untouched : now ≡ record before { resumed = now.resumed }
 
@@ -53,15 +53,20 @@ abbrev pub with_loaded : Moment → Input → WorldState → Moment
 with_loaded before rest world = record before { stage = stage_in before.stage.output before.stage.counts world; resumed = rest }
 
 -- the whole snapshot was read, and the run went on from its world, behind the runs that left its counts, and read no more of the snapshot
-pub record IsResumed (status : Status) (run : Run) (before now : Moment) : Type 0 where
+pub record IsResumed (stopped : Option Stop) (run : Run) (before now : Moment) : Type 0 where
   pub world : WorldState
   pub numbers : Numbers
   pub loaded : IsSnapshotOf before.resumed.left (max_terms_of run.choices) world numbers
   pub allowed : AllowsHorizon run.choices world.replay.buffer.horizon
   pub rest : Input
   pub read : IsAtEnd rest.left
-  pub ending : ReplayEnding status (behind numbers run) (with_loaded before rest world) now
+  pub ending : ReplayEnding stopped (behind numbers run) (with_loaded before rest world) now
 
 -- what a run with `--resume` leaves
-abbrev pub ResumeEnding : Status → Run → Moment → Moment → Type 0
-ResumeEnding status run before now = IsNotResumed status run before now ⊎ IsResumed status run before now
+abbrev pub ResumeEnding : Option Stop → Run → Moment → Moment → Type 0
+ResumeEnding stopped run before now = IsNotResumed stopped run before now ⊎ IsResumed stopped run before now
+
+-- what a run leaves, without `--resume` and with it
+pub record RunEnding (stopped : Option Stop) (run : Run) (before now : Moment) : Type 0 where
+  pub begun : run.choices.resume ≡ None → ReplayEnding stopped run (record before { stage = stage_in before.stage.output before.stage.counts (world_at_start run.choices) }) now
+  pub resumed : IsSome run.choices.resume → ResumeEnding stopped run before now

@@ -6,21 +6,19 @@ ghost use Rattle.replay_model.specs.{Transcript.for_bindings, Transcript.for_tri
 ghost use Rattle.world.specs.{Changing.Tells, Meaning.meaning};
 ghost use Rattle.text_output.specs.Printing.{Prints, output};
 ghost use Rattle.patch_stream.specs.Stream.{step};
-ghost use Rattle.session.specs.{Answering.answer_text, Counts.HasWrittenOn};
-ghost use Rattle.session.specs.Report.{AnswersQuestion, HasNumberLeft, TellsStepBy, telling_of};
-ghost use Rattle.splitting.specs.Graphs.{MayFollow, routes_of};
+ghost use Rattle.session.specs.{Course.answer_text, Moment.HasWrittenOn};
+ghost use Rattle.session.specs.Delivering.{AnswersQuestion, HasNumberLeft, TellsStepBy, telling_of};
 
+use crate::replay::Replay;
 use crate::report::Report;
 use delivery::Delivery;
 use graph_query::Query;
 use patch_stream::print_step;
 use rdf_term::Pattern;
-use splitting::Graphs;
 use std::alloc::Global;
 use text_output::Unwritten;
 use transcript::{print_answer, print_match};
 use triple_store::Change;
-use world::World;
 use wq_io::Sink;
 
 // The context in which a delivery is taken: memory, the folder of the revisions, what is reported, how many asks were answered or records
@@ -46,19 +44,17 @@ impl Context<'_> {
     pub fn answer<K: Sink>(
         &self,
         pattern: &Pattern,
-        world: &World,
-        graphs: &Option<Graphs>,
+        replay: &Replay,
         out: &mut K,
     ) -> Result<u64, Unwritten>
         requires number { HasNumberLeft self.now.report self.now.reported self.now.matched }
-        requires follow { MayFollow graphs.now world.now }
         ensures answers { AnswersQuestion self.now.report self.now.reported (for_triples pattern.now)
-            (answer_text (routes_of graphs.now) self.now.reported self.now.matched (meaning_by meaning world.now.by_two) world.now.replay.played.records (for_triples pattern.now))
+            (answer_text replay.now.routes self.now.reported self.now.matched (meaning_by meaning replay.now.world.by_two) replay.now.world.replay.played.records (for_triples pattern.now))
             (output K.Sink out.old) (output K.Sink out.new) result }
         ensures written { HasWrittenOn K.Sink out.old out.new }
     {
         match self.report {
-            Report::Answers => match self.print(pattern, world, graphs, out) {
+            Report::Answers => match self.print(pattern, replay, out) {
                 Ok(()) => Ok(self.reported + 1),
                 Err(why) => Err(why),
             },
@@ -71,18 +67,17 @@ impl Context<'_> {
     pub fn answer_match<K: Sink>(
         &self,
         query: &Query,
-        world: &World,
-        graphs: &Option<Graphs>,
+        replay: &Replay,
         out: &mut K,
     ) -> Result<u64, Unwritten>
         requires number { HasNumberLeft self.now.report self.now.reported self.now.matched }
         ensures answers { AnswersQuestion self.now.report self.now.reported (for_bindings query.now)
-            (answer_text (routes_of graphs.now) self.now.reported self.now.matched (meaning_by meaning world.now.by_two) world.now.replay.played.records (for_bindings query.now))
+            (answer_text replay.now.routes self.now.reported self.now.matched (meaning_by meaning replay.now.world.by_two) replay.now.world.replay.played.records (for_bindings query.now))
             (output K.Sink out.old) (output K.Sink out.new) result }
         ensures written { HasWrittenOn K.Sink out.old out.new }
     {
         match self.report {
-            Report::Answers => match self.print_rows(query, world, graphs, out) {
+            Report::Answers => match self.print_rows(query, replay, out) {
                 Ok(()) => Ok(self.reported),
                 Err(why) => Err(why),
             },
@@ -94,17 +89,16 @@ impl Context<'_> {
     fn print_rows<K: Sink>(
         &self,
         query: &Query,
-        world: &World,
-        graphs: &Option<Graphs>,
+        replay: &Replay,
         out: &mut K,
     ) -> Result<(), Unwritten>
         requires number { self.now.matched < 2 ^ 64 - 1 }
-        ensures { Prints (answer_text (routes_of graphs.now) self.now.reported self.now.matched (meaning_by meaning world.now.by_two) world.now.replay.played.records (for_bindings query.now))
+        ensures { Prints (answer_text replay.now.routes self.now.reported self.now.matched (meaning_by meaning replay.now.world.by_two) replay.now.world.replay.played.records (for_bindings query.now))
             (output K.Sink out.old) (output K.Sink out.new) result }
     {
-        match graphs {
+        match &replay.graphs {
             Some(_) => Ok(()),
-            None => print_match(self.alloc, self.matched + 1, query, world, out),
+            None => print_match(self.alloc, self.matched + 1, query, &replay.world, out),
         }
     }
 
@@ -112,19 +106,17 @@ impl Context<'_> {
     fn print<K: Sink>(
         &self,
         pattern: &Pattern,
-        world: &World,
-        graphs: &Option<Graphs>,
+        replay: &Replay,
         out: &mut K,
     ) -> Result<(), Unwritten>
         requires number { self.now.reported < 2 ^ 64 - 1 }
-        requires follow { MayFollow graphs.now world.now }
-        ensures { Prints (answer_text (routes_of graphs.now) self.now.reported self.now.matched (meaning_by meaning world.now.by_two) world.now.replay.played.records (for_triples pattern.now))
+        ensures { Prints (answer_text replay.now.routes self.now.reported self.now.matched (meaning_by meaning replay.now.world.by_two) replay.now.world.replay.played.records (for_triples pattern.now))
             (output K.Sink out.old) (output K.Sink out.new) result }
     {
         let number = self.reported + 1;
-        match graphs {
+        match &replay.graphs {
             Some(graphs) => graphs.print_answers(self.alloc, number, pattern, out),
-            None => print_answer(self.alloc, number, pattern, world, out),
+            None => print_answer(self.alloc, number, pattern, &replay.world, out),
         }
     }
 

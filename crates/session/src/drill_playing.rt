@@ -1,24 +1,23 @@
 // The deliveries of a drill are taken as those of a line are, and counted.
 
-ghost use Rattle.std.specs.Prelude.{◌≡◌, ◌+◌, ◌*◌, ◌<◌, IfOk, OnErr, OnOk};
+ghost use Rattle.std.specs.Prelude.{◌≡◌, ◌+◌, ◌*◌, ◌<◌, None, IfOk, OnErr, OnOk};
 ghost use Rattle.replay_model.specs.ReplayState.{nothing_delivered};
 ghost use Rattle.text_output.specs.Printing.{Output, output};
 ghost use Rattle.drill.specs.Drill.{IsSize, drill};
 ghost use Rattle.drill_replay.specs.Playing.{Counted, HasBegun, HasFew, IsByFirst, IsPartOf, StandsAtEnd};
 ghost use Rattle.drill_replay.specs.Summary.{drilled};
-ghost use Rattle.session.specs.{declared.stop.Halt.TheVariants.Unapplied, declared.stop.Stop.TheVariants.OutOfMemory as Refused};
 ghost use Rattle.session.specs.DrillPlaying.{HasTakenFirst, LeavesDrill};
-ghost use Rattle.term_pool.specs.declared.fault.PoolFault.TheVariants.{OutOfMemory as Starved};
+ghost use Rattle.term_pool.specs.declared.fault.PoolFault.TheVariants.{OutOfMemory as StoreOutOfMemory};
 
 use crate::context::{Context, Incoming};
 use crate::delivering::{deliver, take_end};
+use crate::replay::Replay;
 use crate::report::Report;
 use crate::stop::{Halt, Stop};
 use drill::{DrillRevisions, deliveries};
 use drill_replay::DrillCounts;
 use rdf_term::OutOfMemory;
 use std::alloc::Global;
-use world::World;
 use wq_io::Sink;
 
 // The folder of a drill's pages, which are the same in every folder.
@@ -38,16 +37,17 @@ pub fn play<K: Sink>(
     alloc: Global,
     size: u32,
     out: &mut K,
-    world: &mut World,
+    replay: &mut Replay,
 ) -> Result<DrillCounts, OutOfMemory>
     requires size { IsSize size }
-    requires world { world.old.replay ≡ nothing_delivered }
-    requires first { IsByFirst world.old }
-    requires limit { world.old.limit ≡ 20000000 }
+    requires world { replay.old.world.replay ≡ nothing_delivered }
+    requires first { IsByFirst replay.old.world }
+    requires limit { replay.old.world.limit ≡ 20000000 }
+    requires routes { replay.old.routes ≡ None }
     ensures counts { IfOk result (λ counts. Counted (drill size) counts) }
-    ensures ok { OnOk result (world.new.replay ≡ drilled size) }
-    ensures begun { HasBegun size world.new.replay }
-    ensures left { LeavesDrill world.new }
+    ensures ok { OnOk result (replay.new.world.replay ≡ drilled size) }
+    ensures begun { HasBegun size replay.new.world.replay }
+    ensures left { LeavesDrill replay.new.world }
     ensures silent { output K.Sink out.new ≡ output K.Sink out.old }
 {
     let pages = DrillRevisions::new(size);
@@ -59,9 +59,9 @@ pub fn play<K: Sink>(
         counts,
     };
     for done in 0..size {
-        run.take_item(done, out, world)?;
+        run.take_item(done, out, replay)?;
     }
-    run.take_end(out, world)?;
+    run.take_end(out, replay)?;
     Ok(run.counts)
 }
 
@@ -71,18 +71,20 @@ impl DrillRun {
         &mut self,
         done: u32,
         out: &mut K,
-        world: &mut World,
+        replay: &mut Replay,
     ) -> Result<(), OutOfMemory>
         requires size { IsSize self.old.size }
         requires next { done < self.old.size }
-        requires taken { HasTakenFirst self.old (drill done) (output K.Sink out.old) world.old }
+        requires routes { replay.old.routes ≡ None }
+        requires taken { HasTakenFirst self.old (drill done) (output K.Sink out.old) replay.old.world }
         requires few { HasFew self.old.counts (6 * done) }
-        ensures taken { OnOk result (HasTakenFirst self.new (drill (done + 1)) (output K.Sink out.new) world.new) }
+        ensures taken { OnOk result (HasTakenFirst self.new (drill (done + 1)) (output K.Sink out.new) replay.new.world) }
         ensures few { OnOk result (HasFew self.new.counts (6 * (done + 1))) }
-        ensures part { IsPartOf self.old.size (drill (done + 1)) world.new.replay }
-        ensures left { LeavesDrill world.new }
+        ensures part { IsPartOf self.old.size (drill (done + 1)) replay.new.world.replay }
+        ensures left { LeavesDrill replay.new.world }
         ensures silent { output K.Sink out.new ≡ output K.Sink out.old }
         ensures size { self.new.size ≡ self.old.size }
+        ensures routes { replay.new.routes ≡ None }
     {
         let context = Context {
             alloc: self.alloc,
@@ -94,10 +96,7 @@ impl DrillRun {
         let list = deliveries(self.alloc, done + 1)?;
         for delivery in list.as_slice() {
             let incoming = Incoming { context, delivery };
-            let mut graphs = None;
-            let delivered = deliver(&incoming, &mut self.pages, out, world, &mut graphs);
-            drop(graphs);
-            match delivered {
+            match deliver(&incoming, &mut self.pages, out, replay) {
                 Ok(done) => self.counts.add(done.answer),
                 Err(stop) => {
                     drop(list);
@@ -110,12 +109,13 @@ impl DrillRun {
     }
 
     // Takes the end of the deliveries.
-    fn take_end<K: Sink>(&mut self, out: &mut K, world: &mut World) -> Result<(), OutOfMemory>
+    fn take_end<K: Sink>(&mut self, out: &mut K, replay: &mut Replay) -> Result<(), OutOfMemory>
         requires size { IsSize self.old.size }
-        requires taken { HasTakenFirst self.old (drill self.old.size) (output K.Sink out.old) world.old }
-        ensures ok { OnOk result (world.new.replay ≡ drilled self.old.size) }
-        ensures err { OnErr result (StandsAtEnd self.old.size world.new.replay) }
-        ensures left { LeavesDrill world.new }
+        requires routes { replay.old.routes ≡ None }
+        requires taken { HasTakenFirst self.old (drill self.old.size) (output K.Sink out.old) replay.old.world }
+        ensures ok { OnOk result (replay.new.world.replay ≡ drilled self.old.size) }
+        ensures err { OnErr result (StandsAtEnd self.old.size replay.new.world.replay) }
+        ensures left { LeavesDrill replay.new.world }
         ensures counts { self.new.counts ≡ self.old.counts }
         ensures silent { output K.Sink out.new ≡ output K.Sink out.old }
     {
@@ -126,7 +126,7 @@ impl DrillRun {
             reported: 0,
             matched: 0,
         };
-        match take_end(&context, &mut self.pages, out, world, &mut None) {
+        match take_end(&context, &mut self.pages, out, replay) {
             Ok(_) => Ok(()),
             Err(halt) => Err(starved(halt)),
         }
@@ -135,7 +135,7 @@ impl DrillRun {
 
 // The end of a drill stops only with OutOfMemory.
 fn starved(halt: Halt) -> OutOfMemory
-    requires { halt ≡ Unapplied Starved }
+    requires { halt ≡ Halt.Unapplied StoreOutOfMemory }
 {
     let _ = halt;
     OutOfMemory
@@ -143,7 +143,7 @@ fn starved(halt: Halt) -> OutOfMemory
 
 // A delivery of a drill stops only with OutOfMemory.
 fn refused(stop: Stop) -> OutOfMemory
-    requires { stop ≡ Refused }
+    requires { stop ≡ Stop.OutOfMemory }
 {
     let _ = stop;
     OutOfMemory

@@ -1,14 +1,17 @@
 // A drill: its deliveries, and its summary.
 
-ghost use Rattle.std.specs.Prelude.{◌≡◌, ◌≤◌, IfErr, OnOk};
+ghost use Rattle.std.specs.Prelude.{◌≡◌, ◌≤◌, None, IfErr, OnOk};
 ghost use Rattle.replay_model.specs.ReplayState.{nothing_delivered};
 ghost use Rattle.text_output.specs.Printing.{output};
 ghost use Rattle.drill_replay.specs.Playing.{IsByFirst};
-ghost use Rattle.session.specs.{Counts.HasWrittenOn, Drilling.DrillStopped, Drilling.HasDrilled, Remapping.HoldsWithin};
+ghost use Rattle.session.specs.{Moment.HasWrittenOn, Plans.DrillStopped, Plans.HasDrilled, Plans.IsDrillEnd, Remapping.HoldsWithin};
 ghost use Rattle.words.specs.Plan.{greatest_size};
 
 use crate::drill_playing::play;
 use crate::remapping::begin_by_first;
+use crate::replay::Replay;
+use crate::status::Status;
+use crate::stop::Stop;
 use drill_replay::{summarize, summary_lines};
 use std::alloc::Global;
 use text_output::{Unwritten, print_lines};
@@ -18,26 +21,47 @@ use wq_io::Sink;
 /// The limit of a drill's world.
 const LIMIT: u32 = 20_000_000;
 
-// Runs the drill of this size, by version One of the mapping, and prints its summary.
-pub fn drill<K: Sink>(
+// Runs the drill of this size, by version One of the mapping, and prints its summary. Gives the world back.
+pub fn drill<K: Sink>(alloc: Global, size: u32, out: &mut K, world: World) -> (Status, World)
+    requires size { (1 ≤ size) × (size ≤ greatest_size) }
+    requires world { world.replay ≡ nothing_delivered }
+    ensures ending { IsDrillEnd result.0 size (output K.Sink out.old) (output K.Sink out.new) result.1.replay }
+    ensures first { IsByFirst result.1 }
+    ensures limit { (result.1.limit ≡ 20000000) × HoldsWithin 20000000 result.1 }
+    ensures written { HasWrittenOn K.Sink out.old out.new }
+{
+    let mut world = world;
+    begin_by_first(&mut world);
+    world.set_room(LIMIT);
+    let mut replay = Replay::of_world(world);
+    let drilled = drill_and_print(alloc, size, out, &mut replay);
+    let world = replay.into_world();
+    match drilled {
+        Ok(()) => (Status::Ok, world),
+        Err(why) => (Stop::from(why).status(), world),
+    }
+}
+
+// Plays the drill, and prints its summary.
+fn drill_and_print<K: Sink>(
     alloc: Global,
     size: u32,
     out: &mut K,
-    world: &mut World,
+    replay: &mut Replay,
 ) -> Result<(), Unwritten>
     requires size { (1 ≤ size) × (size ≤ greatest_size) }
-    requires world { world.old.replay ≡ nothing_delivered }
-    ensures ok { OnOk result (HasDrilled size (output K.Sink out.old) (output K.Sink out.new) world.new.replay) }
-    ensures err { IfErr result (λ why. DrillStopped why size (output K.Sink out.old) (output K.Sink out.new) world.new.replay) }
-    ensures first { IsByFirst world.new }
-    ensures limit { world.new.limit ≡ 20000000 }
-    ensures held { HoldsWithin 20000000 world.new }
+    requires world { replay.old.world.replay ≡ nothing_delivered }
+    requires first { IsByFirst replay.old.world }
+    requires limit { replay.old.world.limit ≡ 20000000 }
+    requires routes { replay.old.routes ≡ None }
+    ensures ok { OnOk result (HasDrilled size (output K.Sink out.old) (output K.Sink out.new) replay.new.world.replay) }
+    ensures err { IfErr result (λ why. DrillStopped why size (output K.Sink out.old) (output K.Sink out.new) replay.new.world.replay) }
+    ensures first { IsByFirst replay.new.world }
+    ensures limit { replay.new.world.limit ≡ 20000000 }
     ensures written { HasWrittenOn K.Sink out.old out.new }
 {
-    begin_by_first(world);
-    world.set_room(LIMIT);
-    let counts = play(alloc, size, out, world)?;
-    let summary = summarize(alloc, size, counts, world)?;
+    let counts = play(alloc, size, out, replay)?;
+    let summary = summarize(alloc, size, counts, replay.world())?;
     let lines = summary_lines(alloc, &summary)?;
     print_lines(lines.as_slice(), out)
 }

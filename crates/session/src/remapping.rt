@@ -3,16 +3,16 @@
 ghost use Rattle.std.specs.Prelude.{◌≡◌, IfErr, IfOk, OnOk};
 ghost use Rattle.replay_model.specs.ReplayState.{nothing_delivered};
 ghost use Rattle.drill_replay.specs.Playing.{IsByFirst};
-ghost use Rattle.splitting.specs.Graphs.{MayFollow, routes_of};
 ghost use Rattle.text_output.specs.Printing.{output};
 ghost use Rattle.patch_stream.specs.Stream.{steps_anew};
-ghost use Rattle.session.specs.{declared.report.Report.TheVariants.Answers, Counts.HasWrittenOn, Needed.HaveRoom, Needed.needed_anew};
-ghost use Rattle.session.specs.{Remapping.HoldsWithin, Remapping.mapped_by, Remapping.mapped_in, Report.TellsBy, Taking.RemapsPages};
+ghost use Rattle.session.specs.{declared.report.Report.TheVariants.Answers, Moment.HasWrittenOn, Remapping.HaveRoom, Remapping.needed_anew};
+ghost use Rattle.session.specs.{Moved.GoesOn, Remapping.mapped_by, Remapping.mapped_in, Delivering.TellsBy, Delivering.RemapsPages};
 
 use crate::context::Context;
+use crate::replay::Replay;
 use crate::stop::Halt;
 use entity_model::MappingVersion;
-use splitting::{Graphs, follow_remapping};
+use splitting::follow_remapping;
 use triple_store::StoreFault;
 use world::{Remapping, World, WorldFault};
 use wq_io::Sink;
@@ -34,28 +34,23 @@ pub fn take_mapping<K: Sink>(
     context: &Context<'_>,
     version: MappingVersion,
     out: &mut K,
-    world: &mut World,
-    graphs: &mut Option<Graphs>,
+    replay: &mut Replay,
 ) -> Result<u64, Halt>
-    requires { MayFollow graphs.old world.old }
-    ensures replay { world.new.replay ≡ world.old.replay }
-    ensures limit { world.new.limit ≡ world.old.limit }
-    ensures held { HoldsWithin world.old.limit world.old → HoldsWithin world.old.limit world.new }
-    ensures ok { OnOk result (mapped_in world.new ≡ mapped_by version world.old.replay.played.records) }
-    ensures roomed { OnOk result (HaveRoom world.old.limit (needed_anew world.old.replay.played.records (record { version = version; by_two = world.old.by_two }))) }
-    ensures tells { IfOk result (λ reported. TellsBy context.now.report context.now.reported (steps_anew version world.old.replay.played.records world.old.by_two) reported
+    ensures state { replay.new.world.replay ≡ replay.old.world.replay }
+    ensures same { GoesOn replay.old replay.new }
+    ensures ok { OnOk result (mapped_in replay.new.world ≡ mapped_by version replay.old.world.replay.played.records) }
+    ensures roomed { OnOk result (HaveRoom replay.old.world.limit (needed_anew replay.old.world.replay.played.records (record { version = version; by_two = replay.old.world.by_two }))) }
+    ensures tells { IfOk result (λ reported. TellsBy context.now.report context.now.reported (steps_anew version replay.old.world.replay.played.records replay.old.world.by_two) reported
         (output K.Sink out.old) (output K.Sink out.new)) }
-    ensures err { IfErr result (λ halt. RemapsPages halt context.now.report world.old.limit context.now.reported version world.old.replay.played.records
-        (mapped_in world.old) (mapped_in world.new) (output K.Sink out.old) (output K.Sink out.new)) }
-    ensures follow { OnOk result (MayFollow graphs.new world.new) }
-    ensures routes { routes_of graphs.new ≡ routes_of graphs.old }
+    ensures err { IfErr result (λ halt. RemapsPages halt context.now.report replay.old.world.limit context.now.reported version replay.old.world.replay.played.records
+        (mapped_in replay.old.world) (mapped_in replay.new.world) (output K.Sink out.old) (output K.Sink out.new)) }
     ensures written { HasWrittenOn K.Sink out.old out.new }
     ensures silent { context.now.report ≡ Answers → output K.Sink out.new ≡ output K.Sink out.old }
 {
-    world.set_mapping(version);
+    replay.world.set_mapping(version);
     let mut reported = context.reported;
-    while world.stale() > 0 {
-        match world.remap_next_with(context.report.telling()) {
+    while replay.world.stale() > 0 {
+        match replay.world.remap_next_with(context.report.telling()) {
             Ok(
                 Some(
                     Remapping {
@@ -65,7 +60,7 @@ pub fn take_mapping<K: Sink>(
                     },
                 ),
             ) => {
-                follow_remapping(graphs, entity, &triples);
+                follow_remapping(&mut replay.graphs, entity, &triples);
                 drop(triples);
                 match context.tell(reported, change, out) {
                     Ok(now) => reported = now,

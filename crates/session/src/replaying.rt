@@ -1,178 +1,131 @@
-// A replay: the lines of the input, the end, what is printed then, where it answers questions, and the snapshot of the world.
+// A replay: the lines of the input, the end, what is printed then, and the snapshot of the world.
 
-ghost use Rattle.std.specs.Prelude.{◌≡◌, ◌⊎◌, false, Some, IfErr, IfOk, IfSome, OnOk};
-ghost use Rattle.std.specs.FinMap as map;
-ghost use Rattle.checkpoint.specs.Saved.{AreWithin};
-ghost use Rattle.drill_replay.specs.Playing.{IsByFirst};
+ghost use Rattle.std.specs.Prelude.{◌≡◌, ◌≢◌, ◌⊎◌, false, IfSome};
 ghost use Rattle.replay_model.specs.{ReplayState.nothing_delivered, Versions.meaning_by};
-ghost use Rattle.splitting.specs.Graphs.{MayFollow, routes_of};
 ghost use Rattle.text_output.specs.Printing.{Prints, output};
+ghost use Rattle.session.specs.{Course.closing_held, Moment.HasWrittenOn, Moment.HaveGoneOn, Headline.ReplayEnding, Resuming.RunEnding};
+ghost use Rattle.session.specs.{Moment.moment, Moment.run_of, Moved.GoesOn, Moved.run_in, Remapping.HoldsWithin, Remapping.mapped_in};
+ghost use Rattle.session.specs.{Delivering.PrintsClosing, Moment.sections_of, Stop.MayLeavePart, Stop.stop_in, Stop.stop_of, Taking.IsStanding};
 ghost use Rattle.transcript.specs.Sections.{chosen};
+ghost use Rattle.words.specs.Options.{closes, max_terms_of};
 ghost use Rattle.world.specs.Meaning.{meaning};
-ghost use Rattle.session.specs.{Answering.closing_held, Counts.HaveGoneOn};
-ghost use Rattle.session.specs.Headline.{Ending, HasPrinted, HasTakenAll, LeavesSnapshot, Stopped};
-ghost use Rattle.session.specs.{Moment.behind, Moment.moment, Moment.run_of, Moment.world_at_start, Reading.TakesByNeed};
-ghost use Rattle.session.specs.{Remapping.HoldsWithin, Remapping.mapped_in, Sections.sections_of, Stop.MayLeavePart, Taking.IsStanding};
-ghost use Rattle.words.specs.Options.{closes, max_bytes_of, max_terms_of};
 
 use crate::context::Context;
 use crate::delivering::take_end;
 use crate::ports::Ports;
-use crate::remapping::begin_by_first;
+use crate::replay::Replay;
 use crate::report::Report;
+use crate::resuming::{prepare, start};
+use crate::status::Status;
 use crate::stop::Stop;
 use crate::taking::take_lines;
 use crate::task::Task;
-use checkpoint::{Numbers, save};
+use checkpoint::save;
+use graph_routes::Routes;
 use revisions::Revisions;
-use splitting::Graphs;
-use std::alloc::Global;
+use std::hash::RandomState;
 use text_output::Unwritten;
 use transcript::{Sections, print_closing};
 use words::ReplayOptions;
 use world::World;
 use wq_io::{Sink, Source};
 
-// Begins by the first version of the mapping, sets the horizon and the limit, takes the lines and the end, prints, and saves the world where
-// the options say so: then the end of the input isn't that of the deliveries. What is reported are the answers to questions, with the
-// sections that are asked for, or the changes of the stored triples. Where there are graphs, each answers the asks, and the triples of each
-// are printed in the place of the sections.
-pub fn replay_into<S: Source, R: Revisions, K: Sink, F: Sink>(
+// Replays, with a graph for each of the routes and one for the rest, if there are routes: from the snapshot on that the options name, if
+// they name one, and from the beginning otherwise. Gives the world back.
+pub fn run_replay<S: Source, R: Revisions, K: Sink, F: Sink>(
+    keys: RandomState,
     task: &Task<'_>,
+    routes: Option<Routes>,
     ports: &mut Ports<S, R, K, F>,
-    world: &mut World,
-    graphs: &mut Option<Graphs>,
-) -> Result<(), Stop>
-    requires world { world.old.replay ≡ nothing_delivered }
-    requires fresh { IfSome graphs.old (λ g. (g.entries ≡ Some map.empty) × (g.limit ≡ max_terms_of task.now.options.now)) }
-    requires within { AreWithin task.now.numbers }
-    ensures ok { OnOk result (Ending (behind task.now.numbers (run_of (routes_of graphs.old) task.now.report (R.contents ports.old.revisions) task.now.options.now))
-        (moment S.Source R.Revisions K.Sink F.Sink ports.old (world_at_start task.now.options.now))
-        (moment S.Source R.Revisions K.Sink F.Sink ports.new world.new)) }
-    ensures err { IfErr result (λ stop. Stopped stop (behind task.now.numbers (run_of (routes_of graphs.old) task.now.report (R.contents ports.old.revisions) task.now.options.now))
-        (moment S.Source R.Revisions K.Sink F.Sink ports.old (world_at_start task.now.options.now))
-        (moment S.Source R.Revisions K.Sink F.Sink ports.new world.new)) }
-    ensures taken { IfSome (S.left ports.old.events) (λ bytes. TakesByNeed (max_bytes_of task.now.options.now) bytes (S.left ports.new.events) (S.last ports.old.events) (S.last ports.new.events)) }
-    ensures limit { world.new.limit ≡ max_terms_of task.now.options.now }
-    ensures held { HoldsWithin (max_terms_of task.now.options.now) world.new }
-    ensures unsaved { ((closes task.now.options.now ≡ false) × IfErr result MayLeavePart) ⊎ (ports.new.snapshot ≡ ports.old.snapshot) }
-    ensures snapshot { IfErr result (λ stop. LeavesSnapshot stop (behind task.now.numbers (run_of (routes_of graphs.old) task.now.report (R.contents ports.old.revisions) task.now.options.now))
-        (moment S.Source R.Revisions K.Sink F.Sink ports.old (world_at_start task.now.options.now))
-        (moment S.Source R.Revisions K.Sink F.Sink ports.new world.new)) }
-    ensures resumed { ports.new.resumed ≡ ports.old.resumed }
+    world: World,
+) -> (Status, World)
+    requires { world.replay ≡ nothing_delivered }
+    ensures ending { RunEnding (stop_of result.0) (run_of routes task.now.report (R.contents ports.old.revisions) task.now.options.now)
+        (moment S.Source R.Revisions K.Sink F.Sink ports.old world)
+        (moment S.Source R.Revisions K.Sink F.Sink ports.new result.1) }
+    ensures understood { result.0 ≢ Status.BadWords }
+    ensures limit { (result.1.limit ≡ max_terms_of task.now.options.now) × HoldsWithin (max_terms_of task.now.options.now) result.1 }
+    ensures unsaved { ((closes task.now.options.now ≡ false) × IfSome (stop_of result.0) MayLeavePart) ⊎ (ports.new.snapshot ≡ ports.old.snapshot) }
     ensures further { HaveGoneOn S.Source R.Revisions K.Sink F.Sink ports.old ports.new }
 {
-    begin(task.options, world);
-    replay_within(task, ports, world, graphs)
-}
-
-// Begins a replay: by the first version of the mapping, with the horizon that is asked for, if one is, and the limit.
-pub fn begin(options: &ReplayOptions<'_>, world: &mut World)
-    requires { world.old.replay ≡ nothing_delivered }
-    ensures { world.new ≡ world_at_start options.now }
-{
-    begin_by_first(world);
-    set_horizon(options, world);
-    world.set_room(options.max_terms());
-}
-
-// Sets the horizon that is asked for, if one is.
-fn set_horizon(options: &ReplayOptions<'_>, world: &mut World)
-    requires world { world.old.replay ≡ nothing_delivered }
-    requires first { IsByFirst world.old }
-    ensures replay { world.new.replay ≡ (world_at_start options.now).replay }
-    ensures first { IsByFirst world.new }
-    ensures limit { world.new.limit ≡ world.old.limit }
-{
-    if let Some(micros) = options.horizon() {
-        world.set_horizon(micros);
-    }
-}
-
-// Takes the lines and the end, prints, and saves the world where it is to be saved.
-pub fn replay_within<S: Source, R: Revisions, K: Sink, F: Sink>(
-    task: &Task<'_>,
-    ports: &mut Ports<S, R, K, F>,
-    world: &mut World,
-    graphs: &mut Option<Graphs>,
-) -> Result<(), Stop>
-    requires stands { IsStanding world.old.replay (mapped_in world.old) }
-    requires within { AreWithin task.now.numbers }
-    requires limit { world.old.limit ≡ max_terms_of task.now.options.now }
-    requires follow { MayFollow graphs.old world.old }
-    requires held { HoldsWithin world.old.limit world.old }
-    ensures ok { OnOk result (Ending (behind task.now.numbers (run_of (routes_of graphs.old) task.now.report (R.contents ports.old.revisions) task.now.options.now))
-        (moment S.Source R.Revisions K.Sink F.Sink ports.old world.old)
-        (moment S.Source R.Revisions K.Sink F.Sink ports.new world.new)) }
-    ensures err { IfErr result (λ stop. Stopped stop (behind task.now.numbers (run_of (routes_of graphs.old) task.now.report (R.contents ports.old.revisions) task.now.options.now))
-        (moment S.Source R.Revisions K.Sink F.Sink ports.old world.old)
-        (moment S.Source R.Revisions K.Sink F.Sink ports.new world.new)) }
-    ensures taken { IfSome (S.left ports.old.events) (λ bytes. TakesByNeed (max_bytes_of task.now.options.now) bytes (S.left ports.new.events) (S.last ports.old.events) (S.last ports.new.events)) }
-    ensures limit { world.new.limit ≡ max_terms_of task.now.options.now }
-    ensures held { HoldsWithin (max_terms_of task.now.options.now) world.new }
-    ensures unsaved { ((closes task.now.options.now ≡ false) × IfErr result MayLeavePart) ⊎ (ports.new.snapshot ≡ ports.old.snapshot) }
-    ensures snapshot { IfErr result (λ stop. LeavesSnapshot stop (behind task.now.numbers (run_of (routes_of graphs.old) task.now.report (R.contents ports.old.revisions) task.now.options.now))
-        (moment S.Source R.Revisions K.Sink F.Sink ports.old world.old)
-        (moment S.Source R.Revisions K.Sink F.Sink ports.new world.new)) }
-    ensures resumed { ports.new.resumed ≡ ports.old.resumed }
-    ensures further { HaveGoneOn S.Source R.Revisions K.Sink F.Sink ports.old ports.new }
-{
-    let numbers = take_and_print(task, ports, world, graphs)?;
-    if task.options.closes() {
-        return Ok(());
-    }
-    Ok(save(task.alloc, world, numbers, &mut ports.snapshot)?)
-}
-
-// Takes the lines and the end, and prints. Says the counts that a later run goes on with.
-fn take_and_print<S: Source, R: Revisions, K: Sink, F: Sink>(
-    task: &Task<'_>,
-    ports: &mut Ports<S, R, K, F>,
-    world: &mut World,
-    graphs: &mut Option<Graphs>,
-) -> Result<Numbers, Stop>
-    requires stands { IsStanding world.old.replay (mapped_in world.old) }
-    requires within { AreWithin task.now.numbers }
-    requires limit { world.old.limit ≡ max_terms_of task.now.options.now }
-    requires follow { MayFollow graphs.old world.old }
-    requires held { HoldsWithin world.old.limit world.old }
-    ensures ok { IfOk result (λ numbers. HasPrinted (behind task.now.numbers (run_of (routes_of graphs.old) task.now.report (R.contents ports.old.revisions) task.now.options.now)) numbers
-        (moment S.Source R.Revisions K.Sink F.Sink ports.old world.old)
-        (moment S.Source R.Revisions K.Sink F.Sink ports.new world.new)) }
-    ensures err { IfErr result (λ stop. Stopped stop (behind task.now.numbers (run_of (routes_of graphs.old) task.now.report (R.contents ports.old.revisions) task.now.options.now))
-        (moment S.Source R.Revisions K.Sink F.Sink ports.old world.old)
-        (moment S.Source R.Revisions K.Sink F.Sink ports.new world.new)) }
-    ensures taken { IfSome (S.left ports.old.events) (λ bytes. TakesByNeed (max_bytes_of task.now.options.now) bytes (S.left ports.new.events) (S.last ports.old.events) (S.last ports.new.events)) }
-    ensures limit { world.new.limit ≡ world.old.limit }
-    ensures held { HoldsWithin world.old.limit world.new }
-    ensures snapshot { ports.new.snapshot ≡ ports.old.snapshot }
-    ensures resumed { ports.new.resumed ≡ ports.old.resumed }
-    ensures further { HaveGoneOn S.Source R.Revisions K.Sink F.Sink ports.old ports.new }
-{
-    let numbers = take_all(task, ports, world, graphs)?;
-    match task.report {
-        Report::Answers => {
-            close(task, world, graphs, &mut ports.out)?;
-            Ok(numbers)
+    let world = prepare(task.options, world);
+    match start(keys, task, routes, &mut ports.resumed, world) {
+        Ok(mut replay) => {
+            let played = play(task, ports, &mut replay);
+            let status = status_of(played);
+            (status, replay.into_world())
         }
-        Report::Changes => Ok(numbers),
+        Err((stop, world)) => (stop.status(), world),
     }
 }
 
-// Prints the sections that are asked for, or the triples of each graph, where there are graphs.
-fn close<K: Sink>(
+// How a run ended whose replay ended so.
+fn status_of(played: Result<(), Stop>) -> Status
+    ensures stops { stop_of result ≡ stop_in played }
+    ensures understood { result ≢ Status.BadWords }
+{
+    match played {
+        Ok(()) => Status::Ok,
+        Err(stop) => stop.status(),
+    }
+}
+
+// Takes the lines, and the end where it is that of the deliveries; prints; and saves the world where it is to be saved: then the end of the
+// input isn't that of the deliveries.
+fn play<S: Source, R: Revisions, K: Sink, F: Sink>(
     task: &Task<'_>,
-    world: &World,
-    graphs: &Option<Graphs>,
-    out: &mut K,
-) -> Result<(), Unwritten>
-    requires { MayFollow graphs.now world.now }
-    ensures { Prints (closing_held (routes_of graphs.now) (meaning_by meaning world.now.by_two) (sections_of task.now.options.now) world.now.replay.played)
+    ports: &mut Ports<S, R, K, F>,
+    replay: &mut Replay,
+) -> Result<(), Stop>
+    requires stands { IsStanding replay.old.world.replay (mapped_in replay.old.world) }
+    requires limit { replay.old.world.limit ≡ max_terms_of task.now.options.now }
+    ensures ending { ReplayEnding (stop_in result) (run_in replay.old task.now.report (R.contents ports.old.revisions) task.now.options.now)
+        (moment S.Source R.Revisions K.Sink F.Sink ports.old replay.old.world)
+        (moment S.Source R.Revisions K.Sink F.Sink ports.new replay.new.world) }
+    ensures limit { replay.new.world.limit ≡ replay.old.world.limit }
+    ensures unsaved { ((closes task.now.options.now ≡ false) × IfSome (stop_in result) MayLeavePart) ⊎ (ports.new.snapshot ≡ ports.old.snapshot) }
+    ensures further { HaveGoneOn S.Source R.Revisions K.Sink F.Sink ports.old ports.new }
+{
+    let taken = take_lines(task, ports, replay)?;
+    if task.options.closes() {
+        let context = Context {
+            alloc: task.alloc,
+            folder: task.options.folder(),
+            report: task.report,
+            reported: taken.reported,
+            matched: taken.matched,
+        };
+        take_end(&context, &mut ports.revisions, &mut ports.out, replay)?;
+        return Ok(close(task, replay, &mut ports.out)?);
+    }
+    close(task, replay, &mut ports.out)?;
+    let counts = task
+        .report
+        .numbers(replay.earlier(), taken.reported, taken.matched);
+    Ok(save(task.alloc, replay.world(), counts, &mut ports.snapshot)?)
+}
+
+// Prints the sections that are asked for, or the triples of each graph, where there are graphs; nothing where changes are reported.
+fn close<K: Sink>(task: &Task<'_>, replay: &Replay, out: &mut K) -> Result<(), Unwritten>
+    ensures prints { PrintsClosing task.now.report
+        (closing_held replay.now.routes (meaning_by meaning replay.now.world.by_two) (sections_of task.now.options.now) replay.now.world.replay.played)
+        (output K.Sink out.old) (output K.Sink out.new) result }
+    ensures written { HasWrittenOn K.Sink out.old out.new }
+{
+    match task.report {
+        Report::Answers => print_end(task, replay, out),
+        Report::Changes => Ok(()),
+    }
+}
+
+// Prints the sections, or the triples of each graph.
+fn print_end<K: Sink>(task: &Task<'_>, replay: &Replay, out: &mut K) -> Result<(), Unwritten>
+    ensures { Prints (closing_held replay.now.routes (meaning_by meaning replay.now.world.by_two) (sections_of task.now.options.now) replay.now.world.replay.played)
         (output K.Sink out.old) (output K.Sink out.new) result }
 {
-    match graphs {
+    match &replay.graphs {
         Some(graphs) => graphs.print(task.alloc, out),
-        None => print_closing(task.alloc, sections(task.options), world, out),
+        None => print_closing(task.alloc, sections(task.options), &replay.world, out),
     }
 }
 
@@ -185,56 +138,4 @@ fn sections(options: &ReplayOptions<'_>) -> Sections
         state: options.state(),
         side: options.side(),
     }
-}
-
-// Takes the lines, and the end where it is that of the deliveries, with what is reported of them. Says the counts that a later run goes
-// on with.
-fn take_all<S: Source, R: Revisions, K: Sink, F: Sink>(
-    task: &Task<'_>,
-    ports: &mut Ports<S, R, K, F>,
-    world: &mut World,
-    graphs: &mut Option<Graphs>,
-) -> Result<Numbers, Stop>
-    requires stands { IsStanding world.old.replay (mapped_in world.old) }
-    requires within { AreWithin task.now.numbers }
-    requires limit { world.old.limit ≡ max_terms_of task.now.options.now }
-    requires follow { MayFollow graphs.old world.old }
-    requires held { HoldsWithin world.old.limit world.old }
-    ensures ok { IfOk result (λ numbers. HasTakenAll (behind task.now.numbers (run_of (routes_of graphs.old) task.now.report (R.contents ports.old.revisions) task.now.options.now)) numbers
-        (moment S.Source R.Revisions K.Sink F.Sink ports.old world.old)
-        (moment S.Source R.Revisions K.Sink F.Sink ports.new world.new)) }
-    ensures err { IfErr result (λ stop. Stopped stop (behind task.now.numbers (run_of (routes_of graphs.old) task.now.report (R.contents ports.old.revisions) task.now.options.now))
-        (moment S.Source R.Revisions K.Sink F.Sink ports.old world.old)
-        (moment S.Source R.Revisions K.Sink F.Sink ports.new world.new)) }
-    ensures taken { IfSome (S.left ports.old.events) (λ bytes. TakesByNeed (max_bytes_of task.now.options.now) bytes (S.left ports.new.events) (S.last ports.old.events) (S.last ports.new.events)) }
-    ensures follow { OnOk result (MayFollow graphs.new world.new) }
-    ensures routes { routes_of graphs.new ≡ routes_of graphs.old }
-    ensures limit { world.new.limit ≡ world.old.limit }
-    ensures held { HoldsWithin world.old.limit world.new }
-    ensures snapshot { ports.new.snapshot ≡ ports.old.snapshot }
-    ensures resumed { ports.new.resumed ≡ ports.old.resumed }
-    ensures further { HaveGoneOn S.Source R.Revisions K.Sink F.Sink ports.old ports.new }
-{
-    let taken = take_lines(task, ports, world, graphs)?;
-    if !task.options.closes() {
-        return Ok(
-            task.report
-                .numbers(task.numbers, taken.reported, taken.matched),
-        );
-    }
-    let context = Context {
-        alloc: task.alloc,
-        folder: task.options.folder(),
-        report: task.report,
-        reported: taken.reported,
-        matched: taken.matched,
-    };
-    let reported = take_end(
-        &context,
-        &mut ports.revisions,
-        &mut ports.out,
-        world,
-        graphs,
-    )?;
-    Ok(task.report.numbers(task.numbers, reported, taken.matched))
 }

@@ -1,7 +1,7 @@
 // What a run reports of the deliveries that it takes.
 
 ghost use Rattle.std.specs.Prelude.{◌≡◌};
-ghost use Rattle.session.specs.{Report.reported_before, Report.telling_of, Saving.numbers_after};
+ghost use Rattle.session.specs.{Delivering.reported_before, Delivering.telling_of, Moment.numbers_after};
 
 use checkpoint::Numbers;
 use triple_store::Telling;

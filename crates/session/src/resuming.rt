@@ -1,106 +1,127 @@
-// A replay, from its beginning or from a snapshot on.
+// How a replay starts: at its beginning, or from a snapshot on.
 
-ghost use Rattle.std.specs.Prelude.{◌≡◌, ◌≢◌, ◌⊎◌, ◌↔◌, false, None, Some, IfErr, IfOk, IfSome, IsSome, IsTrue, OnOk};
+ghost use Rattle.std.specs.Prelude.{◌≡◌, ◌⊎◌, ◌↔◌, None, Some, IfErr, IfOk, IfSome, IsSome, IsTrue, MatchResult, OnOk};
 ghost use Rattle.std.specs.FinMap as map;
-ghost use Rattle.checkpoint.specs.{Causes.HasCause, Saved.AreWithin};
-ghost use Rattle.checkpoint.specs.declared.fault.LoadFault.TheVariants.{BadLine, OutOfMemory as NoMemory};
+ghost use Rattle.drill_replay.specs.Playing.{IsByFirst};
 ghost use Rattle.replay_model.specs.ReplayState.{nothing_delivered, nothing_delivered_within};
 ghost use Rattle.splitting.specs.{Filling.IsReadyFor, Graphs.GraphsState, Graphs.MayFollow, Graphs.routes_of};
-ghost use Rattle.words.specs.Options.{closes, max_terms_of};
+ghost use Rattle.words.specs.Options.{max_terms_of};
 ghost use Rattle.wq_io.specs.Streams.{IsAtEnd};
-ghost use Rattle.session.specs.{Counts.HasReadOn, Counts.HaveGoneOn, Headline.ReplayEnding};
-ghost use Rattle.session.specs.Moment.{behind, moment, no_numbers, run_of, world_at_start};
+ghost use Rattle.session.specs.{Moment.HasReadOn, Moment.world_at_start, Moment.no_numbers, Moved.moved};
 ghost use Rattle.session.specs.Remapping.{HoldsWithin, mapped_in};
-ghost use Rattle.session.specs.Resuming.{AllowsHorizon, IsRefusedFor, IsSnapshotOf, ResumeEnding};
-ghost use Rattle.session.specs.{Stop.MayLeavePart, Stop.stop_of, Taking.IsStanding};
+ghost use Rattle.session.specs.Resuming.{AllowsHorizon, IsRefusedFor};
+ghost use Rattle.session.specs.Delivering.{IsLoaded, IsUnloaded};
+ghost use Rattle.session.specs.Taking.{IsStanding};
 
-use crate::ports::Ports;
-use crate::replaying::{begin, replay_into, replay_within};
-use crate::status::Status;
+use crate::remapping::begin_by_first;
+use crate::replay::{NOTHING_REPORTED, Replay};
 use crate::stop::Stop;
 use crate::task::Task;
-use checkpoint::{LoadFault, Loaded, Numbers, load};
+use checkpoint::{LoadFault, Loaded, load};
 use graph_routes::Routes;
 use rdf_term::OutOfMemory;
-use revisions::Revisions;
 use splitting::Graphs;
 use std::hash::RandomState;
-use std::mem;
 use words::ReplayOptions;
 use world::World;
-use wq_io::{Sink, Source};
+use wq_io::Source;
 
-// Replays, with a graph for each of the routes and one for the rest, if there are routes: from the snapshot on that the options name, if
-// they name one, and from the beginning otherwise.
-pub fn replay<S: Source, R: Revisions, K: Sink, F: Sink>(
+// Prepares the world. A first run begins with the first version of the mapping, the horizon that is asked for, if one is, and the limit. The
+// world that a run with `--resume` was given gets the limit alone, since another takes its place.
+pub fn prepare(options: &ReplayOptions<'_>, world: World) -> World
+    requires { world.replay ≡ nothing_delivered }
+    ensures begun { options.now.resume ≡ None → result ≡ world_at_start options.now }
+    ensures resumed { IsSome options.now.resume → result ≡ record world { limit = max_terms_of options.now } }
+    ensures unplayed { result.replay ≡ nothing_delivered_within result.replay.buffer.horizon }
+    ensures limit { result.limit ≡ max_terms_of options.now }
+    ensures held { HoldsWithin (max_terms_of options.now) result }
+{
+    let mut world = world;
+    match options.resume() {
+        None => {
+            begin(options, &mut world);
+            world
+        }
+        Some(_) => {
+            world.set_room(options.max_terms());
+            world
+        }
+    }
+}
+
+// Begins a first run.
+fn begin(options: &ReplayOptions<'_>, world: &mut World)
+    requires { world.old.replay ≡ nothing_delivered }
+    ensures { world.new ≡ world_at_start options.now }
+{
+    begin_by_first(world);
+    set_horizon(options, world);
+    world.set_room(options.max_terms());
+}
+
+// Sets the horizon that is asked for, if one is.
+fn set_horizon(options: &ReplayOptions<'_>, world: &mut World)
+    requires world { world.old.replay ≡ nothing_delivered }
+    requires first { IsByFirst world.old }
+    ensures replay { world.new.replay ≡ (world_at_start options.now).replay }
+    ensures first { IsByFirst world.new }
+    ensures limit { world.new.limit ≡ world.old.limit }
+{
+    if let Some(micros) = options.horizon() {
+        world.set_horizon(micros);
+    }
+}
+
+// Starts a replay over a world that was prepared: from the snapshot on that the options name, if they name one, and from the beginning
+// otherwise. If it isn't started, the world is given back with the cause.
+pub fn start<S: Source>(
     keys: RandomState,
     task: &Task<'_>,
     routes: Option<Routes>,
-    ports: &mut Ports<S, R, K, F>,
-    world: &mut World,
-) -> Status
-    requires world { world.old.replay ≡ nothing_delivered }
-    requires first { task.now.numbers ≡ no_numbers }
-    ensures begun { task.now.options.now.resume ≡ None → ReplayEnding result (run_of routes task.now.report (R.contents ports.old.revisions) task.now.options.now)
-        (moment S.Source R.Revisions K.Sink F.Sink ports.old (world_at_start task.now.options.now))
-        (moment S.Source R.Revisions K.Sink F.Sink ports.new world.new) }
-    ensures resumed { IsSome task.now.options.now.resume → ResumeEnding result (run_of routes task.now.report (R.contents ports.old.revisions) task.now.options.now)
-        (moment S.Source R.Revisions K.Sink F.Sink ports.old world.old)
-        (moment S.Source R.Revisions K.Sink F.Sink ports.new world.new) }
-    ensures understood { result ≢ Status.BadWords }
-    ensures limit { world.new.limit ≡ max_terms_of task.now.options.now }
-    ensures held { HoldsWithin (max_terms_of task.now.options.now) world.new }
-    ensures unsaved { ((closes task.now.options.now ≡ false) × IfSome (stop_of result) MayLeavePart) ⊎ (ports.new.snapshot ≡ ports.old.snapshot) }
-    ensures further { HaveGoneOn S.Source R.Revisions K.Sink F.Sink ports.old ports.new }
+    resumed: &mut S,
+    world: World,
+) -> Result<Replay, (Stop, World)>
+    requires begun { task.now.options.now.resume ≡ None → world ≡ world_at_start task.now.options.now }
+    ensures begun { task.now.options.now.resume ≡ None → (resumed.new ≡ resumed.old)
+        × MatchResult result (λ replay. replay ≡ moved (world_at_start task.now.options.now) routes no_numbers) (λ refused. refused.0 ≡ Stop.OutOfMemory) }
+    ensures loaded { IsSome task.now.options.now.resume → MatchResult result
+        (λ replay. IsLoaded task.now.options.now (S.left resumed.old) (S.left resumed.new) routes replay)
+        (λ refused. IsUnloaded refused.0 task.now.options.now (S.left resumed.old) (S.faults resumed.old) (S.faults resumed.new)) }
+    ensures stands { IfOk result (λ replay. IsStanding replay.world.replay (mapped_in replay.world)) }
+    ensures limit { IfOk result (λ replay. replay.world.limit ≡ max_terms_of task.now.options.now) }
+    ensures back { IfErr result (λ refused. refused.1 ≡ world) }
+    ensures further { HasReadOn S.Source resumed.old resumed.new }
 {
     match task.options.resume() {
-        None => begin_anew(keys, task, routes, ports, world),
-        Some(_) => resume(keys, task, routes, ports, world),
+        None => begin_anew(keys, task, routes, world),
+        Some(_) => match load_start(keys, task, routes, resumed) {
+            Ok(replay) => {
+                drop(world);
+                Ok(replay)
+            }
+            Err(fault) => Err((Stop::from(fault), world)),
+        },
     }
 }
 
-// The world if memory is refused before the run begins: that of the start for a first run, the given one for a run with `--resume`, with
-// the limit of the options.
-pub fn refuse(options: &ReplayOptions<'_>, world: &mut World)
-    requires { world.old.replay ≡ nothing_delivered }
-    ensures begun { options.now.resume ≡ None → world.new ≡ world_at_start options.now }
-    ensures resumed { IsSome options.now.resume → world.new ≡ record world.old { limit = max_terms_of options.now } }
-    ensures unplayed { world.new.replay ≡ nothing_delivered_within world.new.replay.buffer.horizon }
-    ensures limit { world.new.limit ≡ max_terms_of options.now }
-    ensures held { HoldsWithin (max_terms_of options.now) world.new }
-{
-    match options.resume() {
-        None => begin(options, world),
-        Some(_) => world.set_room(options.max_terms()),
-    }
-}
-
-// Replays from the beginning.
-fn begin_anew<S: Source, R: Revisions, K: Sink, F: Sink>(
+// Starts at the beginning.
+fn begin_anew(
     keys: RandomState,
     task: &Task<'_>,
     routes: Option<Routes>,
-    ports: &mut Ports<S, R, K, F>,
-    world: &mut World,
-) -> Status
-    requires world { world.old.replay ≡ nothing_delivered }
-    requires first { task.now.numbers ≡ no_numbers }
-    ensures ending { ReplayEnding result (run_of routes task.now.report (R.contents ports.old.revisions) task.now.options.now)
-        (moment S.Source R.Revisions K.Sink F.Sink ports.old (world_at_start task.now.options.now))
-        (moment S.Source R.Revisions K.Sink F.Sink ports.new world.new) }
-    ensures understood { result ≢ Status.BadWords }
-    ensures limit { world.new.limit ≡ max_terms_of task.now.options.now }
-    ensures held { HoldsWithin (max_terms_of task.now.options.now) world.new }
-    ensures unsaved { ((closes task.now.options.now ≡ false) × IfSome (stop_of result) MayLeavePart) ⊎ (ports.new.snapshot ≡ ports.old.snapshot) }
-    ensures further { HaveGoneOn S.Source R.Revisions K.Sink F.Sink ports.old ports.new }
+    world: World,
+) -> Result<Replay, (Stop, World)>
+    requires { world ≡ world_at_start task.now.options.now }
+    ensures begun { MatchResult result (λ replay. replay ≡ moved world routes no_numbers) (λ refused. refused.0 ≡ Stop.OutOfMemory) }
+    ensures back { IfErr result (λ refused. refused.1 ≡ world) }
 {
-    let Ok(mut graphs) = new_graphs(keys, task, routes) else {
-        begin(task.options, world);
-        return Status::OutOfMemory;
-    };
-    match replay_into(task, ports, world, &mut graphs) {
-        Ok(()) => Status::Ok,
-        Err(stop) => stop.status(),
+    match new_graphs(keys, task, routes) {
+        Ok(graphs) => Ok(Replay {
+            world,
+            graphs,
+            earlier: NOTHING_REPORTED,
+        }),
+        Err(OutOfMemory) => Err((Stop::OutOfMemory, world)),
     }
 }
 
@@ -120,90 +141,6 @@ fn new_graphs(
     Ok(Some(graphs))
 }
 
-// Replays from the snapshot on. If it isn't loaded, or has another horizon than the options name, or memory for its graphs is refused,
-// nothing else is read, nothing is written, and the given world is as it was, with the limit of the options.
-fn resume<S: Source, R: Revisions, K: Sink, F: Sink>(
-    keys: RandomState,
-    task: &Task<'_>,
-    routes: Option<Routes>,
-    ports: &mut Ports<S, R, K, F>,
-    world: &mut World,
-) -> Status
-    requires { world.old.replay ≡ nothing_delivered }
-    ensures ending { ResumeEnding result (run_of routes task.now.report (R.contents ports.old.revisions) task.now.options.now)
-        (moment S.Source R.Revisions K.Sink F.Sink ports.old world.old)
-        (moment S.Source R.Revisions K.Sink F.Sink ports.new world.new) }
-    ensures understood { result ≢ Status.BadWords }
-    ensures limit { world.new.limit ≡ max_terms_of task.now.options.now }
-    ensures held { HoldsWithin (max_terms_of task.now.options.now) world.new }
-    ensures unsaved { ((closes task.now.options.now ≡ false) × IfSome (stop_of result) MayLeavePart) ⊎ (ports.new.snapshot ≡ ports.old.snapshot) }
-    ensures further { HaveGoneOn S.Source R.Revisions K.Sink F.Sink ports.old ports.new }
-{
-    match load_start(keys, task, routes, &mut ports.resumed) {
-        Ok(start) => go_on(start, task, ports, world),
-        Err(fault) => {
-            world.set_room(task.options.max_terms());
-            Stop::from(fault).status()
-        }
-    }
-}
-
-// Where a run goes on: the world of a snapshot, with the counts that earlier runs left, and the graphs of what it holds, where there are
-// routes.
-#[derive(Drop)]
-struct Start {
-    loaded: Loaded,
-    graphs: Option<Graphs>,
-}
-
-// Replays from this world on, after the runs that left its counts.
-fn go_on<S: Source, R: Revisions, K: Sink, F: Sink>(
-    start: Start,
-    task: &Task<'_>,
-    ports: &mut Ports<S, R, K, F>,
-    world: &mut World,
-) -> Status
-    requires stands { IsStanding start.loaded.world.replay (mapped_in start.loaded.world) }
-    requires limit { start.loaded.world.limit ≡ max_terms_of task.now.options.now }
-    requires held { HoldsWithin start.loaded.world.limit start.loaded.world }
-    requires within { AreWithin start.loaded.numbers }
-    requires follow { MayFollow start.graphs start.loaded.world }
-    ensures ending { ReplayEnding result (behind start.loaded.numbers (run_of (routes_of start.graphs) task.now.report (R.contents ports.old.revisions) task.now.options.now))
-        (moment S.Source R.Revisions K.Sink F.Sink ports.old start.loaded.world)
-        (moment S.Source R.Revisions K.Sink F.Sink ports.new world.new) }
-    ensures understood { result ≢ Status.BadWords }
-    ensures limit { world.new.limit ≡ max_terms_of task.now.options.now }
-    ensures held { HoldsWithin (max_terms_of task.now.options.now) world.new }
-    ensures unsaved { ((closes task.now.options.now ≡ false) × IfSome (stop_of result) MayLeavePart) ⊎ (ports.new.snapshot ≡ ports.old.snapshot) }
-    ensures further { HaveGoneOn S.Source R.Revisions K.Sink F.Sink ports.old ports.new }
-{
-    let Start { loaded, mut graphs } = start;
-    let numbers = put_in_place(loaded, world);
-    let behind = Task {
-        alloc: task.alloc,
-        options: task.options,
-        report: task.report,
-        numbers,
-    };
-    match replay_within(&behind, ports, world, &mut graphs) {
-        Ok(()) => Status::Ok,
-        Err(stop) => stop.status(),
-    }
-}
-
-// Puts a world that was loaded in the place of this one, and says the counts that go on with it.
-fn put_in_place(loaded: Loaded, world: &mut World) -> Numbers
-    ensures world { world.new ≡ loaded.world }
-    ensures numbers { result ≡ loaded.numbers }
-{
-    let Loaded {
-        world: restored,
-        numbers,
-    } = loaded;
-    drop(mem::replace(world, restored));
-    numbers
-}
-
 // Loads the snapshot, and where there are routes, makes graphs of what it holds. If the options name a horizon, it has to be the snapshot's:
 // otherwise its head, the first line, is refused.
 fn load_start<S: Source>(
@@ -211,18 +148,21 @@ fn load_start<S: Source>(
     task: &Task<'_>,
     routes: Option<Routes>,
     resumed: &mut S,
-) -> Result<Start, LoadFault>
-    ensures ok { IfOk result (λ start. IsSnapshotOf (S.left resumed.old) (max_terms_of task.now.options.now) start.loaded.world start.loaded.numbers) }
-    ensures allowed { IfOk result (λ start. AllowsHorizon task.now.options.now start.loaded.world.replay.buffer.horizon) }
-    ensures routes { IfOk result (λ start. routes_of start.graphs ≡ routes) }
-    ensures follow { IfOk result (λ start. MayFollow start.graphs start.loaded.world) }
+) -> Result<Replay, LoadFault>
+    ensures ok { IfOk result (IsLoaded task.now.options.now (S.left resumed.old) (S.left resumed.new) routes) }
     ensures err { IfErr result (λ fault. IsRefusedFor fault task.now.options.now (S.left resumed.old) (S.faults resumed.old) (S.faults resumed.new)) }
-    ensures whole { OnOk result (IsAtEnd (S.left resumed.new)) }
     ensures further { HasReadOn S.Source resumed.old resumed.new }
 {
-    match load_snapshot(keys, task, resumed) {
+    match load(task.alloc, keys, task.options.max_terms(), resumed) {
         Ok(loaded) => match graphs_of(keys, task, routes, &loaded.world) {
-            Ok(graphs) => Ok(Start { loaded, graphs }),
+            Ok(graphs) => {
+                let Loaded { world, numbers } = loaded;
+                Ok(Replay {
+                    world,
+                    graphs,
+                    earlier: numbers,
+                })
+            }
             Err(fault) => {
                 drop(loaded);
                 Err(fault)
@@ -247,7 +187,7 @@ fn graphs_of(
     ensures allowed { OnOk result (AllowsHorizon task.now.options.now world.now.replay.buffer.horizon) }
     ensures routes { IfOk result (λ graphs. routes_of graphs ≡ routes) }
     ensures follow { IfOk result (λ graphs. MayFollow graphs world.now) }
-    ensures err { IfErr result (λ fault. (fault ≡ NoMemory) ⊎ ((fault ≡ BadLine 1) × (AllowsHorizon task.now.options.now world.now.replay.buffer.horizon → ⊥))) }
+    ensures err { IfErr result (λ fault. (fault ≡ LoadFault.OutOfMemory) ⊎ ((fault ≡ LoadFault.BadLine 1) × (AllowsHorizon task.now.options.now world.now.replay.buffer.horizon → ⊥))) }
 {
     if !allows(task.options.horizon(), world.horizon()) {
         drop(routes);
@@ -258,23 +198,6 @@ fn graphs_of(
     };
     let graphs = Graphs::of_world(task.alloc, keys, routes, task.options.max_terms(), world)?;
     Ok(Some(graphs))
-}
-
-// Loads the snapshot, with room for as many terms as the options say.
-fn load_snapshot<S: Source>(
-    keys: RandomState,
-    task: &Task<'_>,
-    resumed: &mut S,
-) -> Result<Loaded, LoadFault>
-    ensures ok { IfOk result (λ loaded. IsSnapshotOf (S.left resumed.old) (max_terms_of task.now.options.now) loaded.world loaded.numbers) }
-    ensures err { IfErr result (λ fault. HasCause fault (max_terms_of task.now.options.now) (S.left resumed.old) (S.faults resumed.old) (S.faults resumed.new)) }
-    ensures whole { OnOk result (IsAtEnd (S.left resumed.new)) }
-    ensures further { HasReadOn S.Source resumed.old resumed.new }
-{
-    match load(task.alloc, keys, task.options.max_terms(), resumed) {
-        Ok(loaded) => Ok(loaded),
-        Err(fault) => Err(fault),
-    }
 }
 
 // Whether a horizon that is asked for, if one is, is this one.

@@ -1,27 +1,25 @@
 // The top call.
 
-ghost use Rattle.std.specs.Prelude.{◌≡◌, ◌⊎◌, ℕ, List, None, Some, IsSome, map, string_bytes};
+ghost use Rattle.std.specs.Prelude.{◌≡◌, ◌⊎◌, ℕ, None, Some, map, string_bytes};
 ghost use Rattle.replay_model.specs.ReplayState.{nothing_delivered, nothing_delivered_within};
 ghost use Rattle.drill_replay.specs.Playing.{IsByFirst};
-ghost use Rattle.session.specs.{declared.report.Report.TheVariants.Answers, declared.report.Report.TheVariants.Changes, Counts.HaveGoneOn};
-ghost use Rattle.session.specs.{Drilling.DrillEnding, Records.FollowEnding, Headline.ReplayEnding};
-ghost use Rattle.session.specs.{Moment.moment, Moment.run_of, Moment.stage, Moment.world_at_start, Remapping.HoldsWithin};
-ghost use Rattle.session.specs.{Resuming.ResumeEnding, Room.limit_of_plan, Saving.MaySave, Understood.IsNotUnderstood};
+ghost use Rattle.session.specs.{Moment.HaveGoneOn, Plans.DrillEnding, Plans.FollowEnding, Resuming.RunEnding};
+ghost use Rattle.session.specs.{Moment.Run, Moment.moment, Moment.stage, Remapping.HoldsWithin};
+ghost use Rattle.session.specs.Plans.{IsNotUnderstood, IsRunOf, MaySave, limit_of_plan};
+ghost use Rattle.session.specs.Stop.{stop_of};
 ghost use Rattle.following.specs.Following.{follow_moment};
-ghost use Rattle.graph_routes.specs.{declared.routes.Route.Route, Routes.AreRoutesIn};
-ghost use Rattle.words.specs.{Options.Choices, Options.FollowChoices, Options.SplitChoices, Plan.plan_of};
+ghost use Rattle.words.specs.{Options.FollowChoices, Plan.plan_of};
 ghost use Rattle.words.specs.declared.plan.Plan.{Plan as ThePlan};
-ghost use Rattle.words.specs.declared.plan.Plan.TheVariants.{Replay, Drill, Patches, Follow, Split};
+ghost use Rattle.words.specs.declared.plan.Plan.TheVariants.{Drill, Follow};
 
 use crate::drilling::drill;
 use crate::ports::Ports;
 use crate::records::follow_records;
+use crate::replaying::run_replay;
 use crate::report::Report;
-use crate::resuming::replay;
 use crate::split::split;
 use crate::status::Status;
-use crate::stop::Stop;
-use crate::task::{NOTHING_REPORTED, Task};
+use crate::task::Task;
 use revisions::Revisions;
 use std::alloc::Global;
 use std::hash::RandomState;
@@ -46,120 +44,84 @@ use wq_io::{Sink, Source};
 ///
 /// `follow` reads records of changes, and prints how many it applied and, if asked, the triples then.
 ///
-/// `words` are the arguments; `keys` key the hashes of terms; `world` has taken nothing yet and has no horizon. A replay or a drill begins
-/// with the first version of the mapping, whichever is in force in `world`, or with the world of a snapshot. A follower leaves the version
-/// as it is.
+/// `words` are the arguments; `keys` key the hashes of terms; `world` has taken nothing yet and has no horizon, and is given back as the run
+/// leaves it. A replay or a drill begins with the first version of the mapping, whichever is in force in `world`, or with the world of a
+/// snapshot. A follower leaves the version as it is.
 pub fn run<S: Source, R: Revisions, K: Sink, F: Sink>(
     alloc: Global,
     keys: RandomState,
     words: &[String],
     ports: &mut Ports<S, R, K, F>,
-    world: &mut World,
-) -> Status
-    requires world { world.old.replay ≡ nothing_delivered }
+    world: World,
+) -> (Status, World)
+    requires world { world.replay ≡ nothing_delivered }
 
     // If the arguments aren't understood, or the text of the routes isn't, the run reads, writes and delivers nothing. The routes are read
     // after memory is asked for, so the status may be OutOfMemory instead.
-    ensures bad_words { result ≡ Status.BadWords → IsNotUnderstood (map (λ w. string_bytes w) words.now) }
-    ensures words { plan_of (map (λ w. string_bytes w) words.now) ≡ None → result ≡ Status.BadWords }
-    ensures routes { IsNotUnderstood (map (λ w. string_bytes w) words.now) → (result ≡ Status.BadWords) ⊎ (result ≡ Status.OutOfMemory) }
-    ensures untouched { result ≡ Status.BadWords → (ports.new ≡ ports.old) × (world.new ≡ world.old) }
-    ensures unread { IsNotUnderstood (map (λ w. string_bytes w) words.now) → ports.new ≡ ports.old }
-    ensures unplayed { IsNotUnderstood (map (λ w. string_bytes w) words.now) → world.new.replay ≡ nothing_delivered_within world.new.replay.buffer.horizon }
+    ensures refused { result.0 ≡ Status.BadWords →
+        IsNotUnderstood (map (λ w. string_bytes w) words.now) × (ports.new ≡ ports.old) × (result.1 ≡ world) }
+    ensures words { plan_of (map (λ w. string_bytes w) words.now) ≡ None → result.0 ≡ Status.BadWords }
+    ensures bad_words { IsNotUnderstood (map (λ w. string_bytes w) words.now) →
+        ((result.0 ≡ Status.BadWords) ⊎ (result.0 ≡ Status.OutOfMemory)) × (ports.new ≡ ports.old) × (result.1.replay ≡ nothing_delivered_within result.1.replay.buffer.horizon) }
 
-    // A replay without `--resume` ends with Ok or stops for a cause. It begins with the horizon and the limit of its options, and with
-    // version One of the mapping.
-    ensures replay { (choices : Choices) → plan_of (map (λ w. string_bytes w) words.now) ≡ Some (Replay choices) → choices.resume ≡ None →
-        ReplayEnding result (run_of None Answers (R.contents ports.old.revisions) choices)
-        (moment S.Source R.Revisions K.Sink F.Sink ports.old (world_at_start choices))
-        (moment S.Source R.Revisions K.Sink F.Sink ports.new world.new) }
-
-    // So does a patch stream, which is a replay whose output has the records of its changes, and nothing else.
-    ensures patches { (choices : Choices) → plan_of (map (λ w. string_bytes w) words.now) ≡ Some (Patches choices) → choices.resume ≡ None →
-        ReplayEnding result (run_of None Changes (R.contents ports.old.revisions) choices)
-        (moment S.Source R.Revisions K.Sink F.Sink ports.old (world_at_start choices))
-        (moment S.Source R.Revisions K.Sink F.Sink ports.new world.new) }
-
-    // With `--resume` the snapshot is refused for a cause, before anything else is read or anything is written; or the bytes are the
-    // snapshot of a world, and the run goes on from this world and its counts.
-    ensures resumed { (choices : Choices) → plan_of (map (λ w. string_bytes w) words.now) ≡ Some (Replay choices) → IsSome choices.resume →
-        ResumeEnding result (run_of None Answers (R.contents ports.old.revisions) choices)
-        (moment S.Source R.Revisions K.Sink F.Sink ports.old world.old)
-        (moment S.Source R.Revisions K.Sink F.Sink ports.new world.new) }
-    ensures resumed_patches { (choices : Choices) → plan_of (map (λ w. string_bytes w) words.now) ≡ Some (Patches choices) → IsSome choices.resume →
-        ResumeEnding result (run_of None Changes (R.contents ports.old.revisions) choices)
-        (moment S.Source R.Revisions K.Sink F.Sink ports.old world.old)
-        (moment S.Source R.Revisions K.Sink F.Sink ports.new world.new) }
-
-    // So does a split, which is a replay that routes pages to graphs: its output has the answers of each graph, and then the triples of each.
-    // It goes on from any snapshot: the pages that its world holds are in the graphs that they are routed to now.
-    ensures split { (choices : SplitChoices) → plan_of (map (λ w. string_bytes w) words.now) ≡ Some (Split choices) → (routes : List Route) → AreRoutesIn choices.route routes → choices.replay.resume ≡ None →
-        ReplayEnding result (run_of (Some routes) Answers (R.contents ports.old.revisions) choices.replay)
-        (moment S.Source R.Revisions K.Sink F.Sink ports.old (world_at_start choices.replay))
-        (moment S.Source R.Revisions K.Sink F.Sink ports.new world.new) }
-    ensures resumed_split { (choices : SplitChoices) → plan_of (map (λ w. string_bytes w) words.now) ≡ Some (Split choices) → (routes : List Route) → AreRoutesIn choices.route routes → IsSome choices.replay.resume →
-        ResumeEnding result (run_of (Some routes) Answers (R.contents ports.old.revisions) choices.replay)
-        (moment S.Source R.Revisions K.Sink F.Sink ports.old world.old)
-        (moment S.Source R.Revisions K.Sink F.Sink ports.new world.new) }
+    // A replay, a patch stream and a split are runs that differ in their report and in their routes. Each ends with Ok or stops for a cause.
+    // Without `--resume` it begins with the horizon and the limit of its options, and with version One of the mapping. With `--resume` the
+    // snapshot is refused for a cause, before anything else is read or anything is written; or the bytes are the snapshot of a world, and the
+    // run goes on from this world and its counts. A split goes on from any snapshot: the pages that its world holds are in the graphs that
+    // they are routed to now.
+    ensures replay { (plan : ThePlan) → plan_of (map (λ w. string_bytes w) words.now) ≡ Some plan → (run : Run) → IsRunOf plan (R.contents ports.old.revisions) run →
+        RunEnding (stop_of result.0) run
+        (moment S.Source R.Revisions K.Sink F.Sink ports.old world)
+        (moment S.Source R.Revisions K.Sink F.Sink ports.new result.1) }
 
     // A drill ends with Ok, or stops while it prints, or with OutOfMemory. All that it leaves is mapped by the first version, and it reads
     // nothing.
     ensures drill { (size : ℕ) → plan_of (map (λ w. string_bytes w) words.now) ≡ Some (Drill size) →
-        DrillEnding result size
-        (stage R.Revisions K.Sink ports.old.revisions ports.old.out world.old)
-        (stage R.Revisions K.Sink ports.new.revisions ports.new.out world.new)
-        × IsByFirst world.new × (ports.new ≡ record ports.old { out = ports.new.out }) }
+        DrillEnding result.0 size
+        (stage R.Revisions K.Sink ports.old.revisions ports.old.out world)
+        (stage R.Revisions K.Sink ports.new.revisions ports.new.out result.1)
+        × IsByFirst result.1 × (ports.new ≡ record ports.old { out = ports.new.out }) }
 
     // A follower ends with Ok or stops for a cause, and what it took of its input is bounded. It fetches nothing, and the world stays
     // empty.
     ensures follow { (choices : FollowChoices) → plan_of (map (λ w. string_bytes w) words.now) ≡ Some (Follow choices) →
-        FollowEnding result choices
+        FollowEnding result.0 choices
         (follow_moment S.Source K.Sink ports.old.events ports.old.out)
         (follow_moment S.Source K.Sink ports.new.events ports.new.out)
-        × (ports.new ≡ record ports.old { events = ports.new.events; out = ports.new.out }) × (world.new ≡ record world.old { limit = 20000000 }) }
+        × (ports.new ≡ record ports.old { events = ports.new.events; out = ports.new.out }) × (result.1 ≡ record world { limit = 20000000 }) }
 
     // Once the arguments are understood, the world ends with the plan's limit, however the run ends, and what it holds stays within it.
     ensures limit { (plan : ThePlan) → plan_of (map (λ w. string_bytes w) words.now) ≡ Some plan →
-        (result ≡ Status.BadWords) ⊎ ((world.new.limit ≡ limit_of_plan plan) × HoldsWithin (limit_of_plan plan) world.new) }
+        (result.0 ≡ Status.BadWords) ⊎ ((result.1.limit ≡ limit_of_plan plan) × HoldsWithin (limit_of_plan plan) result.1) }
 
     // Nothing is written into the snapshot without `--save`, nor by a run that stops for another cause than a failed write or refused memory.
     // What a replay writes into it comes last (`snapshot` of `ReplayEnding`).
     ensures unsaved { (plan : ThePlan) → plan_of (map (λ w. string_bytes w) words.now) ≡ Some plan →
-        MaySave plan result ⊎ (ports.new.snapshot ≡ ports.old.snapshot) }
+        MaySave plan result.0 ⊎ (ports.new.snapshot ≡ ports.old.snapshot) }
 
     // The contents of the revisions stay the same, and failure counters never decrease.
     ensures further { HaveGoneOn S.Source R.Revisions K.Sink F.Sink ports.old ports.new }
 {
     match read_plan(words) {
-        None => Status::BadWords,
+        None => (Status::BadWords, world),
         Some(Plan::Replay(options)) => {
             let task = Task {
                 alloc,
                 options: &options,
                 report: Report::Answers,
-                numbers: NOTHING_REPORTED,
             };
-            replay(keys, &task, None, ports, world)
+            run_replay(keys, &task, None, ports, world)
         }
         Some(Plan::Patches(options)) => {
             let task = Task {
                 alloc,
                 options: &options,
                 report: Report::Changes,
-                numbers: NOTHING_REPORTED,
             };
-            replay(keys, &task, None, ports, world)
+            run_replay(keys, &task, None, ports, world)
         }
-        Some(Plan::Drill(size)) => match drill(alloc, size, &mut ports.out, world) {
-            Ok(()) => Status::Ok,
-            Err(why) => Stop::from(why).status(),
-        },
-        Some(Plan::Follow(options)) => {
-            match follow_records(alloc, keys, &options, ports, world) {
-                Ok(()) => Status::Ok,
-                Err(stop) => stop.status(),
-            }
-        }
+        Some(Plan::Drill(size)) => drill(alloc, size, &mut ports.out, world),
+        Some(Plan::Follow(options)) => follow_records(alloc, keys, &options, ports, world),
         Some(Plan::Split(options)) => split(alloc, keys, &options, ports, world),
     }
 }

@@ -1,7 +1,7 @@
 // Why a run stopped.
 
 ghost use Rattle.std.specs.Prelude.{◌≡◌, Some};
-ghost use Rattle.session.specs.{Stop.cause_of_record, Stop.stop_of, declared.stop.Stop.TheVariants.OutOfMemory as Refused};
+ghost use Rattle.session.specs.{Stop.cause_of_record, Stop.stop_of, declared.stop.Stop.TheVariants.OutOfMemory as StopOutOfMemory};
 
 use crate::status::Status;
 use checkpoint::LoadFault;
@@ -41,7 +41,7 @@ pub enum Stop {
 }
 
 impl From<OutOfMemory> for Stop {
-    ghost from_gives = { λ _ stop. stop ≡ Refused };
+    ghost from_gives = { λ _ stop. stop ≡ StopOutOfMemory };
 
     fn from(_refused: OutOfMemory) -> Stop {
         Stop::OutOfMemory
@@ -158,7 +158,7 @@ impl Stop {
     // The status of a run that stopped so.
     pub fn status(self) -> Status
         ensures stops { stop_of result ≡ Some self }
-        ensures refused { self ≡ Refused → result ≡ Status.OutOfMemory }
+        ensures refused { self ≡ Stop.OutOfMemory → result ≡ Status.OutOfMemory }
     {
         match self {
             Stop::BadLine(number, cause) => Status::BadLine(number, cause),

@@ -1,26 +1,22 @@
 // The lines of the input are taken one by one.
 
 ghost use Rattle.std.specs.Prelude.{◌≡◌, ◌⊎◌, ◌∷◌, [], Ok, Err, IfErr, IfOk, IfSome, OnOk};
-ghost use Rattle.checkpoint.specs.Saved.{AreWithin};
 ghost use Rattle.replay_model.specs.Transcript.{matches};
 ghost use Rattle.event_line.specs.{declared.faults.LineCause.LineCause, Line.delivery_of};
-ghost use Rattle.splitting.specs.Graphs.{MayFollow, routes_of};
-ghost use Rattle.session.specs.declared.stop.Stop.TheVariants.{BadLine, OutOfMemory as Refused};
-ghost use Rattle.session.specs.{Counts.HaveGoneOn, Headline.Stopped, Moment.behind, Moment.moment, Moment.run_of, Reading.TakesByNeed};
-ghost use Rattle.session.specs.{Remapping.HoldsWithin, Remapping.mapped_in, Stops.HasTaken, Taking.IsStanding};
+ghost use Rattle.session.specs.{Moment.HaveGoneOn, Headline.Stopped, Moment.moment, Moved.GoesOn, Moved.run_in, Reading.TakesByNeed};
+ghost use Rattle.session.specs.{Remapping.mapped_in, Delivering.HasTaken, Taking.IsStanding};
 ghost use Rattle.words.specs.Options.{max_bytes_of, max_terms_of};
 
 use crate::context::{Context, Incoming};
 use crate::delivering::deliver;
 use crate::ports::Ports;
+use crate::replay::Replay;
 use crate::stop::Stop;
 use crate::task::Task;
 use delivery::Delivery;
 use event_line::{DeliveryFault, delivery};
 use revisions::Revisions;
-use splitting::Graphs;
 use std::alloc::Global;
-use world::World;
 use wq_io::{Lines, Sink, Source};
 
 // What was taken of an input: how many asks were answered or records written, and how many matches were delivered, with those of earlier
@@ -37,25 +33,18 @@ pub struct LinesTaken {
 pub fn take_lines<S: Source, R: Revisions, K: Sink, F: Sink>(
     task: &Task<'_>,
     ports: &mut Ports<S, R, K, F>,
-    world: &mut World,
-    graphs: &mut Option<Graphs>,
+    replay: &mut Replay,
 ) -> Result<LinesTaken, Stop>
-    requires stands { IsStanding world.old.replay (mapped_in world.old) }
-    requires within { AreWithin task.now.numbers }
-    requires limit { world.old.limit ≡ max_terms_of task.now.options.now }
-    requires follow { MayFollow graphs.old world.old }
-    requires held { HoldsWithin world.old.limit world.old }
-    ensures ok { IfOk result (λ taken. HasTaken (behind task.now.numbers (run_of (routes_of graphs.old) task.now.report (R.contents ports.old.revisions) task.now.options.now)) taken.reported taken.matched
-        (moment S.Source R.Revisions K.Sink F.Sink ports.old world.old)
-        (moment S.Source R.Revisions K.Sink F.Sink ports.new world.new)) }
-    ensures err { IfErr result (λ stop. Stopped stop (behind task.now.numbers (run_of (routes_of graphs.old) task.now.report (R.contents ports.old.revisions) task.now.options.now))
-        (moment S.Source R.Revisions K.Sink F.Sink ports.old world.old)
-        (moment S.Source R.Revisions K.Sink F.Sink ports.new world.new)) }
+    requires stands { IsStanding replay.old.world.replay (mapped_in replay.old.world) }
+    requires limit { replay.old.world.limit ≡ max_terms_of task.now.options.now }
+    ensures ok { IfOk result (λ taken. HasTaken (run_in replay.old task.now.report (R.contents ports.old.revisions) task.now.options.now) taken.reported taken.matched
+        (moment S.Source R.Revisions K.Sink F.Sink ports.old replay.old.world)
+        (moment S.Source R.Revisions K.Sink F.Sink ports.new replay.new.world)) }
+    ensures err { IfErr result (λ stop. Stopped stop (run_in replay.old task.now.report (R.contents ports.old.revisions) task.now.options.now)
+        (moment S.Source R.Revisions K.Sink F.Sink ports.old replay.old.world)
+        (moment S.Source R.Revisions K.Sink F.Sink ports.new replay.new.world)) }
     ensures taken { IfSome (S.left ports.old.events) (λ bytes. TakesByNeed (max_bytes_of task.now.options.now) bytes (S.left ports.new.events) (S.last ports.old.events) (S.last ports.new.events)) }
-    ensures limit { world.new.limit ≡ world.old.limit }
-    ensures held { HoldsWithin world.old.limit world.new }
-    ensures follow { OnOk result (MayFollow graphs.new world.new) }
-    ensures routes { routes_of graphs.new ≡ routes_of graphs.old }
+    ensures same { GoesOn replay.old replay.new }
     ensures snapshot { ports.new.snapshot ≡ ports.old.snapshot }
     ensures resumed { ports.new.resumed ≡ ports.old.resumed }
     ensures further { HaveGoneOn S.Source R.Revisions K.Sink F.Sink ports.old ports.new }
@@ -63,8 +52,9 @@ pub fn take_lines<S: Source, R: Revisions, K: Sink, F: Sink>(
     let folder = task.options.folder();
     let mut lines = Lines::new(task.options.max_bytes());
     let mut line = Vec::new(task.alloc);
-    let mut reported = task.report.reported_before(task.numbers);
-    let mut matched = task.numbers.matches;
+    let earlier = replay.earlier();
+    let mut reported = task.report.reported_before(earlier);
+    let mut matched = earlier.matches;
     while let Some(number) = lines.next(&mut ports.events, &mut line)? {
         let delivery = read_delivery(task.alloc, line.as_slice(), number)?;
         let context = Context {
@@ -78,13 +68,7 @@ pub fn take_lines<S: Source, R: Revisions, K: Sink, F: Sink>(
             context,
             delivery: &delivery,
         };
-        let delivered = deliver(
-            &incoming,
-            &mut ports.revisions,
-            &mut ports.out,
-            world,
-            graphs,
-        );
+        let delivered = deliver(&incoming, &mut ports.revisions, &mut ports.out, replay);
         matched += matches_in(&delivery);
         drop(delivery); // its memory is free before the next line is read
         let done = delivered?;
@@ -106,7 +90,7 @@ fn matches_in(delivery: &Delivery) -> u64
 // Reads one line.
 fn read_delivery(alloc: Global, line: &[u8], number: u64) -> Result<Delivery, Stop>
     ensures ok { IfOk result (λ d. delivery_of line.now ≡ Ok d) }
-    ensures err { IfErr result (λ stop. ((cause : LineCause) × (stop ≡ BadLine number cause) × (delivery_of line.now ≡ Err cause)) ⊎ (stop ≡ Refused)) }
+    ensures err { IfErr result (λ stop. ((cause : LineCause) × (stop ≡ Stop.BadLine number cause) × (delivery_of line.now ≡ Err cause)) ⊎ (stop ≡ Stop.OutOfMemory)) }
 {
     match delivery(alloc, line) {
         Ok(delivery) => Ok(delivery),

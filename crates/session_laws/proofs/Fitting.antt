@@ -28,14 +28,13 @@ use Rattle.session.specs.declared.stop.Halt.TheVariants.{Unapplied as NotApplied
 use Rattle.term_pool.specs.declared.fault.PoolFault.TheVariants.{Full as NoRoom}
 use Rattle.told_pages.specs.Told.{terms_there, versions_told}
 use Rattle.told_pages.proofs.Fits.{ByTwoTold, fits}
-use Rattle.session.specs.Headline.{StandsAtMapping, Stopped}
+use Rattle.session.specs.Headline.{StandsAtMapping, Stopped, StopsAtEnd, StopsWithin}
 use Rattle.session.specs.Course.{led_to, version_at}
 use Rattle.session.proofs.FromNothing.{led_first, version_first}
 use Rattle.session.specs.Moment.{IsFirst, Moment, Run, horizon_at, start_of}
 use Rattle.session.specs.Reading.{AreDeliveries}
 use Rattle.session.specs.Remapping.{HasNoRoom, IsFullOfStale, Mapped, mapped_by, next_stale_in, remapped_some}
-use Rattle.session.specs.Stops.{StopsAtEnd, StopsWithin}
-use Rattle.session.specs.Taking.{IsFull, entered_perhaps, judgement, replies_there}
+use Rattle.session.specs.Taking.{IsFull, entered_if_any, judgement, replies_there}
 use Rattle.session_laws.proofs.Beginnings.{Begins, begins-all, begins-events, begins-fewer, begins-in_force, begins-mapping, first_begins}
 use Rattle.told_pages.proofs.Named.{AreAmong, GivesThere, HoldsNamed, IsNamed, WorldNamed, end_named, entered_named, first_among, following_named, last_among, some_named, source_gives, wanted_named}
 use Rattle.session.proofs.Reading.{at_known}
@@ -67,9 +66,9 @@ module _ (ds : List Delivery) where
 -- ---- a run that stopped
 
 module _ (contents : ℕ → Option Bytes) (es : List Event) (replies : Replies) (gives : (e : Event) (r : ℕ) → GivesThere contents r (replies e r)) where
-  perhaps_named : (hz : Option ℕ) (ds : List Delivery) (last : Option Delivery) → AreAmong (events (ds ++ option_to_list last)) es → WorldNamed contents es (entered_perhaps (following hz replies ds) last)
-  perhaps_named hz ds None among = following_named contents es replies gives hz ds (subst (λ l. AreAmong (events l) es) (append-nil ds) among)
-  perhaps_named hz ds (Some d) among =
+  if_any_named : (hz : Option ℕ) (ds : List Delivery) (last : Option Delivery) → AreAmong (events (ds ++ option_to_list last)) es → WorldNamed contents es (entered_if_any (following hz replies ds) last)
+  if_any_named hz ds None among = following_named contents es replies gives hz ds (subst (λ l. AreAmong (events l) es) (append-nil ds) among)
+  if_any_named hz ds (Some d) among =
       entered_named contents es replies gives (following hz replies ds) d (last_among contents es replies gives ds d among)
       (following_named contents es replies gives hz ds (first_among contents es replies gives ds d among))
 
@@ -107,8 +106,8 @@ module _ (run : Run) (before now : Moment) (bytes : List ℕ) (ds : List Deliver
       record {
         named = subst (WorldNamed contents (events ds)) (sym (s.within.source contents known))
             (some_named contents (events ds) replies gives s.within.steps _
-            (subst (λ w. WorldNamed contents (events ds) (entered_perhaps w s.last)) (sym (led s.deliveries))
-            (perhaps_named contents (events ds) replies gives (horizon_at (start_of run before)) s.deliveries s.last (begins-events ds (s.deliveries ++ option_to_list s.last) b))));
+            (subst (λ w. WorldNamed contents (events ds) (entered_if_any w s.last)) (sym (led s.deliveries))
+            (if_any_named contents (events ds) replies gives (horizon_at (start_of run before)) s.deliveries s.last (begins-events ds (s.deliveries ++ option_to_list s.last) b))));
         mapped = one_version s.deliveries (begins-fewer ds s.deliveries (option_to_list s.last) b) s.mapped;
       }
 

@@ -17,16 +17,14 @@ use Rattle.session.specs.declared.report.Report.TheVariants.{Answers, Changes}
 use Rattle.session.specs.declared.status.Status.{Status}
 use Rattle.session.specs.declared.status.Status.TheVariants.{Ok as Ended}
 use Rattle.session.specs.Headline.{Ending, HasFates, numbers_saved}
-use Rattle.session.specs.Moment.{Moment, Run, Stage, behind, start_in, start_of}
-use Rattle.session.specs.OneRun.{CountsQuestions, HoldsAndNames, StandsAfter, printed_by, printed_in_all, said_from_start, state_ended, steps_ended}
+use Rattle.session.specs.Moment.{Moment, Run, Stage, behind, start_in, start_of, sections_of, HasSaved, saved_at, snapshot_text}
+use Rattle.session.specs.OneRun.{CountsQuestions, HoldsAndNames, StandsAfter, printed_by, printed_in_all, said_from_start, state_ended, steps_ended, TwoRuns, all_deliveries, all_replies, first_deliveries, first_replies, horizon_of}
 use Rattle.session.specs.Resuming.{IsResumed, with_loaded}
-use Rattle.session.specs.Saving.{HasSaved, saved_at, snapshot_text}
-use Rattle.session.specs.Sections.{sections_of}
-use Rattle.session.specs.OneRun.{TwoRuns, all_deliveries, all_replies, first_deliveries, first_replies, horizon_of}
+use Rattle.session.specs.Stop.{stop_of}
 use Rattle.session_laws.proofs.OneRun.{fates_are, first_counts, first_patches, first_stands, holds_are, next_counts, next_patches, next_stands, prints_by, prints_rest, streams_rest, world_is}
 
 -- such bytes give back one world with one set of counts
-begins_at : (status : Status) (run : Run) (before now : Moment) (stage : Stage) (numbers : Numbers) (resumed : IsResumed status run before now) → IfSome before.resumed.left (λ bytes. saved_in_bytes bytes ≡ Some (saved_at stage numbers)) →
+begins_at : (status : Status) (run : Run) (before now : Moment) (stage : Stage) (numbers : Numbers) (resumed : IsResumed (stop_of status) run before now) → IfSome before.resumed.left (λ bytes. saved_in_bytes bytes ≡ Some (saved_at stage numbers)) →
     IsSome before.resumed.left → saved_of resumed.world resumed.numbers ≡ saved_at stage numbers
 begins_at status run before now stage numbers resumed saved told = by before.resumed.left told resumed.loaded.saved saved
   where
@@ -47,7 +45,7 @@ stands_there run before rest world counts stage numbers same h replies ds stands
 counts_same : (world : WorldState) (counts : Numbers) (stage : Stage) (numbers : Numbers) → saved_of world counts ≡ saved_at stage numbers → counts ≡ numbers
 counts_same world counts stage numbers same = ap numbers_back same
 
-pub begins_there : (status : Status) (run : Run) (before now : Moment) (stage : Stage) (numbers : Numbers) (bytes : List ℕ) (resumed : IsResumed status run before now) →
+pub begins_there : (status : Status) (run : Run) (before now : Moment) (stage : Stage) (numbers : Numbers) (bytes : List ℕ) (resumed : IsResumed (stop_of status) run before now) →
     before.resumed.left ≡ Some bytes → saved_in_bytes bytes ≡ Some (saved_at stage numbers) →
     (h : Option ℕ) (replies : Replies) (ds : List Delivery) → StandsAfter h replies ds (start_in numbers stage) →
     StandsAfter h replies ds (start_of (behind resumed.numbers run) (with_loaded before resumed.rest resumed.world)) × (resumed.numbers ≡ numbers)

@@ -20,16 +20,12 @@ use Rattle.patch_stream.specs.Stream.{Step, changes, steps_anew, steps_due, step
 use Rattle.checkpoint.specs.declared.numbers.Numbers.{Numbers}
 use Rattle.words.specs.Options.{closes}
 use Rattle.session.specs.declared.report.Report.TheVariants.{Answers, Changes}
-use Rattle.session.specs.Along.{along, state_along, steps_of_delivery, stream_text_from, version_since}
-use Rattle.session.specs.Answering.{answer_by, closing_by, said_by}
-use Rattle.session.specs.Course.{all_said, course_ended, led_to, version_at}
+use Rattle.session.specs.Course.{along, state_along, steps_of_delivery, stream_text_from, version_since, answer_by, closing_by, said_by, all_said, course_ended, led_to, version_at}
 use Rattle.session.specs.Headline.{Ending, HasFates, course_of, numbers_saved}
-use Rattle.session.specs.Moment.{Beginning, IsFirst, Moment, Run, horizon_at, standing, start_in, start_of}
+use Rattle.session.specs.Moment.{Beginning, IsFirst, Moment, Run, horizon_at, standing, start_in, start_of, sections_of, numbers_of}
 use Rattle.session.specs.OneRun.{CountsQuestions, HoldsAndNames, StandsAfter, printed_by, printed_in_all, replies_with, said_from_start, state_ended, steps_ended}
 use Rattle.session.specs.Remapping.{Mapped, mapped_by}
 use Rattle.session.specs.Report.{bytes_of}
-use Rattle.session.specs.Saving.{numbers_of}
-use Rattle.session.specs.Sections.{sections_of}
 use Rattle.session.proofs.Along.{version-along}
 use Rattle.session.proofs.Ends.{fates}
 use Rattle.session_laws.proofs.SaidRuns.{said_start-two}

@@ -12,22 +12,20 @@ use Rattle.world.specs.Meaning.{meaning}
 use Rattle.world.specs.Roomed.{room_with}
 use Rattle.world.specs.WorldState.{WorldState}
 use Rattle.checkpoint.specs.declared.fault.LoadFault.{LoadFault}
-use Rattle.checkpoint.specs.declared.fault.LoadFault.TheVariants.{ReadFault as NotRead, TooLong as OverLength, BadLine, Full, OutOfMemory as NoMemory}
+use Rattle.checkpoint.specs.declared.fault.LoadFault.TheVariants.{ReadFault as NotRead, TooLong as OverLength, BadLine, Full, OutOfMemory as LoadOutOfMemory}
 use Rattle.checkpoint.specs.Causes.{IsFileOverfull, IsNoSnapshot, longest_file}
 use Rattle.checkpoint.specs.Loading.{IsLoadable}
 use Rattle.checkpoint.specs.Saved.{AreWithin, saved_of}
 use Rattle.words.specs.Options.{closes, max_terms_of}
 use Rattle.session.specs.declared.status.Status.{Status}
-use Rattle.session.specs.declared.status.Status.TheVariants.{Ok as Ended, BadWords, BadLine as LineRefused, ReadFault as ReadFailed, WriteFault as WriteFailed, TooLong as LimitPassed}
-use Rattle.session.specs.declared.status.Status.TheVariants.{StoreFull as RoomPassed, OutOfMemory as MemoryRefused, BadSnapshot as SnapshotRefused}
+use Rattle.session.specs.declared.status.Status.TheVariants.{Ok as Ended, BadWords, BadLine as LineRefused, ReadFault as ReadFailed, WriteFault as WriteFailed, TooLong as LimitPassed, StoreFull as RoomPassed, OutOfMemory as StatusOutOfMemory, BadSnapshot as SnapshotRefused}
 use Rattle.session.specs.declared.stop.Stop.{Stop}
 use Rattle.session.specs.declared.stop.Stop.TheVariants.{BadSnapshot, OutOfMemory, StoreFull}
 use Rattle.session_laws.specs.Complete.{IsStill}
 use Rattle.session.specs.Headline.{Ending, Stopped, numbers_saved}
-use Rattle.session.specs.Moment.{Moment, Run, Stage, behind, start_of}
+use Rattle.session.specs.Moment.{Moment, Run, Stage, behind, start_of, HasSaved, saved_at}
 use Rattle.session.specs.OneRun.{StandsAfter, deliveries_of, replies_with}
 use Rattle.session.specs.Resuming.{AllowsHorizon, IsNotResumed, IsRefusedFor, IsResumed, ResumeEnding, with_loaded}
-use Rattle.session.specs.Saving.{HasSaved, saved_at}
 use Rattle.session.specs.Stop.{stop_of, stop_of_load}
 use Rattle.session_laws.proofs.Complete.{not_risen}
 use Rattle.session_laws.proofs.OneRun.{holds_are, next_stands}
@@ -45,7 +43,7 @@ pub stopped_of : (status : Status) (run : Run) (before now : Moment) → MatchOp
 stopped_of status run before now ended = if_stopped (Ending run before now) (λ stop. Stopped stop run before now) (stop_of status) ended
 
 -- the status of a run that stopped with OutOfMemory
-of_memory : (status : Status) → stop_of status ≡ Some OutOfMemory → status ≡ MemoryRefused
+of_memory : (status : Status) → stop_of status ≡ Some OutOfMemory → status ≡ StatusOutOfMemory
 of_memory Ended is = cc
 of_memory BadWords is = cc
 of_memory (LineRefused number cause) is = cc
@@ -53,7 +51,7 @@ of_memory ReadFailed is = cc
 of_memory WriteFailed is = cc
 of_memory LimitPassed is = cc
 of_memory RoomPassed is = cc
-of_memory MemoryRefused is = refl
+of_memory StatusOutOfMemory is = refl
 of_memory (SnapshotRefused number) is = cc
 
 module _ (h : Option ℕ) (earlier : Replies) (ds : List Delivery) (run : Run) (before now : Moment) (stands : StandsAfter h earlier ds (start_of run before)) (ending : Ending run before now) (open_still : closes run.choices ≡ false)
@@ -98,14 +96,14 @@ module _ (h : Option ℕ) (earlier : Replies) (ds : List Delivery) (run : Run) (
 
     -- no line is refused
     pub none_refused : ((n : ℕ) → IsLoadable (world_in 0 now.stage) (numbers_saved ending) → IsNoSnapshot (file_text saved) n → ⊥) → saved_in_bytes (file_text saved) ≡ Some saved → AllowsHorizon later.choices h → (status : Status) →
-        ResumeEnding status later then_before then_now → (n : ℕ) → stop_of status ≡ Some (BadSnapshot n) → ⊥
+        ResumeEnding (stop_of status) later then_before then_now → (n : ℕ) → stop_of status ≡ Some (BadSnapshot n) → ⊥
     none_refused lines back allowed status ended n is = ⊎_elim refused resumed ended
       where
         of_fault : (fault : LoadFault) → Some (stop_of_load fault) ≡ Some (BadSnapshot n) → IsRefusedFor fault later.choices then_before.resumed.left then_before.resumed.faults then_now.resumed.faults → ⊥
         of_fault NotRead stop why = cc
         of_fault OverLength stop why = cc
         of_fault Full stop why = cc
-        of_fault NoMemory stop why = cc
+        of_fault LoadOutOfMemory stop why = cc
         of_fault (BadLine m) stop why = ⊎_elim
             (λ bad. lines m (loadable 0 fit within) (at_bytes (λ bytes. IsNoSnapshot bytes m) bad))
             (λ other.
@@ -115,10 +113,10 @@ module _ (h : Option ℕ) (earlier : Replies) (ds : List Delivery) (run : Run) (
             other.1.differs (subst (AllowsHorizon later.choices) (sym (ap (λ (s : Saved). s.state.buffer.horizon) it ∙ horizon_is)) allowed))
             why
 
-        refused : IsNotResumed status later then_before then_now → ⊥
+        refused : IsNotResumed (stop_of status) later then_before then_now → ⊥
         refused x = of_fault x.fault (sym x.is ∙ is) x.cause
 
-        resumed : IsResumed status later then_before then_now → ⊥
+        resumed : IsResumed (stop_of status) later then_before then_now → ⊥
         resumed x =
             let it : Run = behind x.numbers later in
             let from : Moment = with_loaded then_before x.rest x.world in
@@ -127,7 +125,7 @@ module _ (h : Option ℕ) (earlier : Replies) (ds : List Delivery) (run : Run) (
     -- and there is no room only where there is none for what is held
     pub full_for_itself : (IsLoadable (world_in 0 now.stage) (numbers_saved ending) → IsFileOverfull (max_terms_of later.choices) (file_text saved) →
         max_terms_of later.choices < room_with (meaning_by meaning (all_by now.stage.mapped.version now.stage.world.played.records)) now.stage.world.played.records []) →
-        (status : Status) → IsNotResumed status later then_before then_now → stop_of status ≡ Some StoreFull →
+        (status : Status) → IsNotResumed (stop_of status) later then_before then_now → stop_of status ≡ Some StoreFull →
         max_terms_of later.choices < room_with (meaning_by meaning (all_by now.stage.mapped.version now.stage.world.played.records)) now.stage.world.played.records []
     full_for_itself room status x is = of_fault x.fault (sym x.is ∙ is) x.cause
       where
@@ -136,7 +134,7 @@ module _ (h : Option ℕ) (earlier : Replies) (ds : List Delivery) (run : Run) (
         of_fault NotRead stop why = cc
         of_fault OverLength stop why = cc
         of_fault (BadLine m) stop why = cc
-        of_fault NoMemory stop why = cc
+        of_fault LoadOutOfMemory stop why = cc
         of_fault Full stop why = ⊎_elim
             (λ over. room (loadable 0 fit within) (at_bytes (IsFileOverfull (max_terms_of later.choices)) over))
             (λ other. let never : Full ≡ BadLine 1 = other.0 in cc)
@@ -144,15 +142,15 @@ module _ (h : Option ℕ) (earlier : Replies) (ds : List Delivery) (run : Run) (
 
     -- where none is refused, and there is room, the snapshot is loaded unless memory is refused
     pub goes_on : IfSome now.snapshot.bytes (λ text. length text ≤ longest_file) → IsStill then_before.resumed.faults then_now.resumed.faults → (status : Status) →
-        ((n : ℕ) → stop_of status ≡ Some (BadSnapshot n) → ⊥) → (IsNotResumed status later then_before then_now → stop_of status ≡ Some StoreFull → ⊥) →
-        (IsResumed status later then_before then_now → (status ≡ Ended) ⊎ (status ≡ MemoryRefused)) → ResumeEnding status later then_before then_now → (status ≡ Ended) ⊎ (status ≡ MemoryRefused)
+        ((n : ℕ) → stop_of status ≡ Some (BadSnapshot n) → ⊥) → (IsNotResumed (stop_of status) later then_before then_now → stop_of status ≡ Some StoreFull → ⊥) →
+        (IsResumed (stop_of status) later then_before then_now → (status ≡ Ended) ⊎ (status ≡ StatusOutOfMemory)) → ResumeEnding (stop_of status) later then_before then_now → (status ≡ Ended) ⊎ (status ≡ StatusOutOfMemory)
     goes_on short still status lines room resumed ended = ⊎_elim (λ x. of_fault x x.fault x.is x.cause) resumed ended
       where
         within_length : length (file_text saved) ≤ longest_file
         within_length = subst (λ (o : Option (List ℕ)). IfSome o (λ text. length text ≤ longest_file)) (saved_bytes empty) short
 
-        of_fault : IsNotResumed status later then_before then_now → (fault : LoadFault) → stop_of status ≡ Some (stop_of_load fault) →
-            IsRefusedFor fault later.choices then_before.resumed.left then_before.resumed.faults then_now.resumed.faults → (status ≡ Ended) ⊎ (status ≡ MemoryRefused)
+        of_fault : IsNotResumed (stop_of status) later then_before then_now → (fault : LoadFault) → stop_of status ≡ Some (stop_of_load fault) →
+            IsRefusedFor fault later.choices then_before.resumed.left then_before.resumed.faults then_now.resumed.faults → (status ≡ Ended) ⊎ (status ≡ StatusOutOfMemory)
         of_fault x NotRead stop why = ⊎_elim (λ rose. not_risen then_before.resumed.faults then_now.resumed.faults still rose) (λ other. let never : NotRead ≡ BadLine 1 = other.0 in cc) why
         of_fault x OverLength stop why = ⊎_elim
             (λ long. let past : longest_file < length (file_text saved) = at_bytes (λ text. longest_file < length text) long in absurd (omega (arith, past, within_length)))
@@ -160,4 +158,4 @@ module _ (h : Option ℕ) (earlier : Replies) (ds : List Delivery) (run : Run) (
             why
         of_fault x (BadLine n) stop why = absurd (lines n stop)
         of_fault x Full stop why = absurd (room x stop)
-        of_fault x NoMemory stop why = inr (of_memory status stop)
+        of_fault x LoadOutOfMemory stop why = inr (of_memory status stop)

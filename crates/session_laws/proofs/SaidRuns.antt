@@ -10,7 +10,7 @@ use Rattle.replay_parts.specs.Checkpoint.{advanced_by, checkpoint, checkpoint_at
 use Rattle.replay_parts.proofs.GoingOn.{checkpoint-append}
 use Rattle.replay_parts.proofs.TwoRuns.{AgreeReached, AgreeWhere, both, both_first, both_second, checkpoint-waiting, checkpoint_first, following-reached, reached-push}
 use Rattle.graph_routes.specs.declared.routes.Route.{Route}
-use Rattle.session.specs.Answering.{answer_by, answer_of_delivery, said_by}
+use Rattle.session.specs.Course.{answer_by, answer_of_delivery, said_by}
 use Rattle.session.specs.OneRun.{said_from_start}
 use Rattle.session.proofs.Along.{along-push}
 

@@ -24,7 +24,7 @@ use Rattle.world.specs.Meaning.{meaning}
 use Rattle.replica.specs.Record.{record_text}
 use Rattle.patch_stream.specs.Stream.{Step, changes, is_change, numbered_from, step, steps_applied, steps_due, steps_of_play, steps_to_end, stream_text}
 use Rattle.patch_stream.proofs.Streams.{numbered-append}
-use Rattle.session.specs.Along.{along, steps_of_delivery, stream_text_from}
+use Rattle.session.specs.Course.{along, steps_of_delivery, stream_text_from}
 use Rattle.session.proofs.Along.{along-push}
 use Rattle.session.proofs.FromNothing.{steps_grow}
 

@@ -25,7 +25,7 @@ ghost use Rattle.following.specs.{Following.Ending as Followed, Following.Follow
 ghost use Rattle.checkpoint.specs.{declared.numbers.Numbers.Numbers as TheNumbers, Causes.longest_file, Saved.AreWithin};
 ghost use Rattle.session.specs.declared.report.Report.TheVariants.{Answers, Changes};
 ghost use Rattle.session.specs.{declared.status.Status.Status, declared.stop.Stop.Stop};
-ghost use Rattle.session.specs.{Along.along, Along.fetches_of_delivery, Along.steps_of_delivery, Along.stream_text_from, Answering.said_by};
+ghost use Rattle.session.specs.{Course.along, Course.fetches_of_delivery, Course.steps_of_delivery, Course.stream_text_from, Course.said_by};
 ghost use Rattle.session.specs.Course.{course_to_end, led_to, version_at};
 ghost use Rattle.session_laws.specs.Complete.{FindsDocument, IsStill, has_document, steps_made, triples_in};
 ghost use Rattle.session.specs.Headline.{Ending, HasFates, Stopped, numbers_saved};
@@ -33,7 +33,7 @@ ghost use Rattle.session.specs.Moment.{Beginning, IsFirst, Moment, Run, Stage, b
 ghost use Rattle.session.specs.OneRun.{CountsQuestions, HoldsAndNames, StandsAfter, TwoRuns, all_deliveries, all_replies, deliveries_of, first_deliveries, first_replies, horizon_of, printed_by, printed_in_all, replies_with, said_from_start, state_ended, steps_ended};
 ghost use Rattle.session.specs.Reading.{AreDeliveries};
 ghost use Rattle.session.specs.Resuming.{AllowsHorizon, IsNotResumed, IsResumed, ResumeEnding, with_loaded};
-ghost use Rattle.session.specs.{Saving.saved_at, Sections.sections_of, Stop.stop_of};
+ghost use Rattle.session.specs.{Moment.saved_at, Moment.sections_of, Stop.stop_of};
 ghost use Rattle.session.specs.{Remapping.IsFullOfStale, Remapping.held_triples, Remapping.mapped_by, Taking.IsFull, Taking.judgement};
 ghost use Rattle.told_pages.specs.Told.{terms_there};
 
@@ -214,7 +214,7 @@ pub fn first_runs_stand_after_nothing()
 
 /// A run that goes on from the bytes that another run saved begins where that one stood, with its counts.
 pub fn resumed_runs_begin_where_others_stood()
-    ensures { (status : Status) (run : Run) (before now : Moment) (stage : Stage) (numbers : TheNumbers) (bytes : List ℕ) → (resumed : IsResumed status run before now) →
+    ensures { (status : Status) (run : Run) (before now : Moment) (stage : Stage) (numbers : TheNumbers) (bytes : List ℕ) → (resumed : IsResumed (stop_of status) run before now) →
         before.resumed.left ≡ Some bytes → saved_in_bytes bytes ≡ Some (saved_at stage numbers) →
         (h : Option ℕ) (replies : Replies) (ds : List Delivery) → StandsAfter h replies ds (start_in numbers stage) →
         StandsAfter h replies ds (start_of (behind resumed.numbers run) (with_loaded before resumed.rest resumed.world)) × (resumed.numbers ≡ numbers) }
@@ -226,11 +226,11 @@ pub fn saved_worlds_are_gone_on_from()
     ensures lines { (h : Option ℕ) (earlier : Replies) (ds : List Delivery) (run : Run) (before now : Moment) → StandsAfter h earlier ds (start_of run before) → (ending : Ending run before now) →
         closes run.choices ≡ false → before.snapshot.bytes ≡ Some [] → IsFitSaved (saved_at now.stage (numbers_saved ending)) → AreWithin (numbers_saved ending) →
         (later : Run) (then_before then_now : Moment) → then_before.resumed.left ≡ now.snapshot.bytes → AllowsHorizon later.choices h →
-        (status : Status) → ResumeEnding status later then_before then_now → (n : ℕ) → stop_of status ≡ Some (Stop.BadSnapshot n) → ⊥ }
+        (status : Status) → ResumeEnding (stop_of status) later then_before then_now → (n : ℕ) → stop_of status ≡ Some (Stop.BadSnapshot n) → ⊥ }
     ensures room { (h : Option ℕ) (earlier : Replies) (ds : List Delivery) (run : Run) (before now : Moment) → StandsAfter h earlier ds (start_of run before) → (ending : Ending run before now) →
         closes run.choices ≡ false → before.snapshot.bytes ≡ Some [] → IsFitSaved (saved_at now.stage (numbers_saved ending)) → AreWithin (numbers_saved ending) →
         (later : Run) (then_before then_now : Moment) → then_before.resumed.left ≡ now.snapshot.bytes →
-        (status : Status) → IsNotResumed status later then_before then_now → stop_of status ≡ Some Stop.StoreFull →
+        (status : Status) → IsNotResumed (stop_of status) later then_before then_now → stop_of status ≡ Some Stop.StoreFull →
         max_terms_of later.choices < room_with (meaning_by meaning (all_by now.stage.mapped.version now.stage.world.played.records)) now.stage.world.played.records [] }
 {
     replays_can_be_saved();
@@ -248,7 +248,7 @@ pub fn good_input_goes_on_from_saved_worlds()
         IfSome now.snapshot.bytes (λ text. length text ≤ longest_file) →
         (later : Run) (then_before then_now : Moment) → then_before.resumed.left ≡ now.snapshot.bytes → AllowsHorizon later.choices h →
         room_with (meaning_by meaning (all_by now.stage.mapped.version now.stage.world.played.records)) now.stage.world.played.records [] ≤ max_terms_of later.choices →
-        (status : Status) → ResumeEnding status later then_before then_now → (status ≡ Status.BadWords → ⊥) →
+        (status : Status) → ResumeEnding (stop_of status) later then_before then_now → (status ≡ Status.BadWords → ⊥) →
         (bytes : List ℕ) (items : List Delivery) → then_before.input.left ≡ Some bytes → AreDeliveries (max_bytes_of later.choices) bytes items →
         IsStill then_before.resumed.faults then_now.resumed.faults → IsStill then_before.input.faults then_now.input.faults →
         IsStill then_before.stage.output.faults then_now.stage.output.faults →

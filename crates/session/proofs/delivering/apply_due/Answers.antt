@@ -6,8 +6,7 @@ use Rattle.term_pool.specs.declared.fault.PoolFault.TheVariants.{Full, OutOfMemo
 use Rattle.splitting.specs.Graphs.{routes_of}
 use Rattle.splitting.proofs.Following.{may_be_sound}
 use Rattle.splitting.proofs.Roomed.{may_have_room}
-use Rattle.session.specs.Counts.{counts}
-use Rattle.session.specs.Moment.{stage}
+use Rattle.session.specs.Moment.{counts, stage}
 use Rattle.session.proofs.Due.{IsApplied, applies-leads, goes-further, goes-nowhere, gone-on, none_due, starved, unprinted}
 use Rattle.session.proofs.Needed.{applied_has_room}
 use Rattle.session.proofs.Reports.{never_unprinted, still_silent, unprinted_held_up}
@@ -15,50 +14,48 @@ use Rattle.session.proofs.Versions.{applies-versions, keeps-further}
 use Rattle.session.proofs.delivering.apply_due.Goals as goal
 
 pub loop-applied-init : goal.loop-applied-init
-loop-applied-init g c = record {
+loop-applied-init g c = rw (← c.replay.view_is) (record {
   goes = goes-nowhere _ _ _;
   source = record { known = refl; faults = omega arith; misses = omega arith; most = refl };
-  limit = refl;
+  kept = c.replay.invariant;
+  same = record { limit = refl; routes = refl; earlier = refl };
   versions = λ version is. is;
-  follow = c.requires;
-  routes = refl;
   written = record { faults = omega arith; most = refl };
   silent = λ answers. refl;
-}
+})
 
 pub loop-applied-preserved : goal.loop-applied-preserved
 loop-applied-preserved g c =
     let before = c.loop-applied.invariant in
     let call = c.in-Ok.ensures in
     let applied = rw before.source.known at call.applied in
-    let keeps = applies-versions _ _ c.loop-applied.world c.apply_next_with.new.self _ applied call.mapping call.by_two in
+    let keeps = applies-versions _ _ c.loop-applied.replay-inside.world c.apply_next_with.new.self _ applied call.mapping call.by_two in
     let changed = rw c.telling.ensures at call.change in
     let told = c.in-Ok-tell.ensures.tells _ _ changed in
-    let is : IsApplied (g.R.Revisions.contents c.args.revisions.now) c.args.context.now.folder.now c.args.world.now.limit
-    (stage g.R.Revisions g.K.Sink c.loop-applied.revisions c.loop-applied.out c.loop-applied.world) (stage g.R.Revisions g.K.Sink c.apply_next_with.new.revisions c.tell.new.out c.apply_next_with.new.self) = record {
+    let is : IsApplied (g.R.Revisions.contents c.args.revisions.now) c.args.context.now.folder.now c.args.replay.now.world.limit
+    (stage g.R.Revisions g.K.Sink c.loop-applied.revisions c.loop-applied.out c.loop-applied.replay-inside.world) (stage g.R.Revisions g.K.Sink c.apply_next_with.new.revisions c.tell.new.out c.apply_next_with.new.self) = record {
       applied = c.in-Ok.field-0.applied;
       applies = applied;
       rises = record { shown = call.shown; calls = call.calls; more_faults = call.more_faults; more_misses = call.more_misses };
       keeps = keeps;
-      has_room = applied_has_room _ _ _ c.loop-applied.world c.apply_next_with.new.self.replay _ applied (rw before.limit at call.within);
+      has_room = applied_has_room _ _ _ c.loop-applied.replay-inside.world c.apply_next_with.new.self.replay _ applied (rw before.same.limit at call.within);
     } in
     record {
       goes = goes-further _ _ _ _ _ _ _ before.versions before.goes (applies-leads _ _ _ _ _ c.loop-applied.reported c.in-Ok-tell.now _ _ is told);
       source = gone-on g.R.Revisions _ _ _ before.source (record { known = call.told; faults = call.more_faults; misses = call.more_misses; most = call.most });
-      limit = call.limit ∙ before.limit;
-      versions = keeps-further c.args.world.now c.loop-applied.world c.apply_next_with.new.self before.versions keeps;
-      follow = c.follow_application.ensures.follow _ _ c.loop-applied.world c.apply_next_with.new.self call.applied call.limit call.by_two call.holders (rw c.routes_of.ensures at call.routed) before.follow;
-      routes = c.follow_application.ensures.routes ∙ before.routes;
+      versions = keeps-further c.args.replay.now.world c.loop-applied.replay-inside.world c.apply_next_with.new.self before.versions keeps;
+      kept = (c.follow_application.ensures.follow _ _ c.loop-applied.replay-inside.world c.apply_next_with.new.self call.applied call.limit call.by_two call.holders (rw c.routes_of.ensures at call.routed) before.kept.0, before.kept.1);
+      same = record { limit = call.limit ∙ before.same.limit; routes = c.follow_application.ensures.routes ∙ before.same.routes; earlier = before.same.earlier };
       written = record { faults = omega (arith, before.written.faults, c.in-Ok-tell.ensures.written.faults); most = c.in-Ok-tell.ensures.written.most ∙ before.written.most };
       silent = λ answers. still_silent _ _ _ _ _ _ answers told ∙ before.silent answers;
     }
 
 pub follow_application-requires-clause-sound : goal.follow_application-requires-clause-sound
-follow_application-requires-clause-sound g c = may_be_sound (routes_of c.loop-applied.graphs) _ _ _ _ _ (rw c.routes_of.ensures at c.in-Ok.ensures.routed)
+follow_application-requires-clause-sound g c = may_be_sound (routes_of c.loop-applied.replay-inside.graphs) _ _ _ _ _ (rw c.routes_of.ensures at c.in-Ok.ensures.routed)
 
 pub follow_application-requires-clause-room : goal.follow_application-requires-clause-room
 follow_application-requires-clause-room g c =
-    may_have_room c.loop-applied.graphs c.loop-applied.world _ _ _ _ c.loop-applied.invariant.follow (rw c.routes_of.ensures at c.in-Ok.ensures.routed) c.in-Ok.ensures.within
+    may_have_room c.loop-applied.replay-inside.graphs c.loop-applied.replay-inside.world _ _ _ _ c.loop-applied.invariant.kept.0 (rw c.routes_of.ensures at c.in-Ok.ensures.routed) c.in-Ok.ensures.within
 
 pub loop-applied-smaller : goal.loop-applied-smaller
 loop-applied-smaller g c = applies-fewer _ _ _ _ _ c.in-Ok.ensures.applied
@@ -70,13 +67,13 @@ returns-in-Err-clause-err g c =
     let applied = rw before.source.known at call.applied in
     let changed = rw c.telling.ensures at call.change in
     let told = c.in-Err.ensures.tells _ _ changed in
-    let is : IsApplied (g.R.Revisions.contents c.args.revisions.now) c.args.context.now.folder.now c.args.world.now.limit
-    (stage g.R.Revisions g.K.Sink c.loop-applied.revisions c.loop-applied.out c.loop-applied.world) (stage g.R.Revisions g.K.Sink c.apply_next_with.new.revisions c.tell.new.out c.apply_next_with.new.self) = record {
+    let is : IsApplied (g.R.Revisions.contents c.args.revisions.now) c.args.context.now.folder.now c.args.replay.now.world.limit
+    (stage g.R.Revisions g.K.Sink c.loop-applied.revisions c.loop-applied.out c.loop-applied.replay-inside.world) (stage g.R.Revisions g.K.Sink c.apply_next_with.new.revisions c.tell.new.out c.apply_next_with.new.self) = record {
       applied = c.in-Ok.field-0.applied;
       applies = applied;
       rises = record { shown = call.shown; calls = call.calls; more_faults = call.more_faults; more_misses = call.more_misses };
-      keeps = applies-versions _ _ c.loop-applied.world c.apply_next_with.new.self _ applied call.mapping call.by_two;
-      has_room = applied_has_room _ _ _ c.loop-applied.world c.apply_next_with.new.self.replay _ applied (rw before.limit at call.within);
+      keeps = applies-versions _ _ c.loop-applied.replay-inside.world c.apply_next_with.new.self _ applied call.mapping call.by_two;
+      has_room = applied_has_room _ _ _ c.loop-applied.replay-inside.world c.apply_next_with.new.self.replay _ applied (rw before.same.limit at call.within);
     } in
     unprinted _ _ c.in-Err.why _ _ _ _ c.loop-applied.reported _ _ _ before.versions before.goes is told
 
@@ -91,8 +88,8 @@ pub returns-in-Err-clause-versions : goal.returns-in-Err-clause-versions
 returns-in-Err-clause-versions g c =
     let before = c.loop-applied.invariant in
     let call = c.in-Ok.ensures in
-    keeps-further c.args.world.now c.loop-applied.world c.apply_next_with.new.self before.versions
-    (applies-versions _ _ c.loop-applied.world c.apply_next_with.new.self _ call.applied call.mapping call.by_two)
+    keeps-further c.args.replay.now.world c.loop-applied.replay-inside.world c.apply_next_with.new.self before.versions
+    (applies-versions _ _ c.loop-applied.replay-inside.world c.apply_next_with.new.self _ call.applied call.mapping call.by_two)
 
 pub returns-in-Err-clause-silent : goal.returns-in-Err-clause-silent
 returns-in-Err-clause-silent g c =
@@ -102,17 +99,17 @@ returns-in-Err-clause-silent g c =
 pub returns-in-Err-Nothing-clause-ok : goal.returns-in-Err-Nothing-clause-ok
 returns-in-Err-Nothing-clause-ok g c =
     let call = c.in-Err-Nothing.ensures in
-    none_due _ _ _ _ (output g.K.Sink c.loop-applied.out) (counts g.R.Revisions c.loop-applied.revisions) _ c.loop-applied.world c.apply_next_with.new.self c.loop-applied.invariant.goes
+    none_due _ _ _ _ (output g.K.Sink c.loop-applied.out) (counts g.R.Revisions c.loop-applied.revisions) _ c.loop-applied.replay-inside.world c.apply_next_with.new.self c.loop-applied.invariant.goes
     (⊎_elim (λ same. same) (λ refused. absurd (refused.0 c.in-Err-Nothing.field-0-is)) call.calls_at_fault) call.more_faults call.more_misses call.err (call.nothing.0 (ap Err c.in-Err-Nothing.field-0-is))
 
 pub returns-in-Err-Full-clause-err : goal.returns-in-Err-Full-clause-err
 returns-in-Err-Full-clause-err g c =
     let call = c.in-Err-Full.ensures in
-    starved Full _ _ _ _ (output g.K.Sink c.loop-applied.out) (counts g.R.Revisions c.loop-applied.revisions) _ c.loop-applied.world c.apply_next_with.new.self c.loop-applied.invariant.goes
+    starved Full _ _ _ _ (output g.K.Sink c.loop-applied.out) (counts g.R.Revisions c.loop-applied.revisions) _ c.loop-applied.replay-inside.world c.apply_next_with.new.self c.loop-applied.invariant.goes
     (record { calls = call.calls_at_full (ap Err c.in-Err-Full.field-0-is); faults = call.more_faults; misses = call.more_misses }) call.err
 
 pub returns-in-Err-OutOfMemory-clause-err : goal.returns-in-Err-OutOfMemory-clause-err
 returns-in-Err-OutOfMemory-clause-err g c =
     let call = c.in-Err-OutOfMemory.ensures in
-    starved OutOfMemory _ _ _ _ (output g.K.Sink c.loop-applied.out) (counts g.R.Revisions c.loop-applied.revisions) _ c.loop-applied.world c.apply_next_with.new.self c.loop-applied.invariant.goes
+    starved OutOfMemory _ _ _ _ (output g.K.Sink c.loop-applied.out) (counts g.R.Revisions c.loop-applied.revisions) _ c.loop-applied.replay-inside.world c.apply_next_with.new.self c.loop-applied.invariant.goes
     (record { calls = ⊎_elim (λ same. inl same) (λ one. inr one.1) call.calls_at_fault; faults = call.more_faults; misses = call.more_misses }) call.err

@@ -3,13 +3,17 @@ use Rattle.std.specs.FinMap.{len-empty}
 use Rattle.replay_model.specs.Play.{nothing_played}
 use Rattle.world.proofs.Rooming.{nothing_held}
 use Rattle.session.proofs.Ongoing.{followed_on}
+use Rattle.session.proofs.Plans.{follow_stopped}
 use Rattle.session.proofs.records.follow_records.Goals as goal
 
 pub set_room-requires : goal.set_room-requires
 set_room-requires g c = rw c.requires.world (len-empty _ _)
 
-pub returns-in-Err-clause-err : goal.returns-in-Err-clause-err
-returns-in-Err-clause-err g c = record { why = c.in-Err.why; is = c.from.ensures; stopped = c.in-Err.ensures.err }
+pub returns-in-Err-clause-ending : goal.returns-in-Err-clause-ending
+returns-in-Err-clause-ending g c = follow_stopped _ _ _ _ _ c.status.ensures.stops (record { why = c.in-Err.why; is = c.from.ensures; stopped = c.in-Err.ensures.err }) c.follow.ensures.taken
+
+pub returns-in-Ok-clause-ending : goal.returns-in-Ok-clause-ending
+returns-in-Ok-clause-ending g c = record { outcome = c.in-Ok.ensures.ok; taken = c.follow.ensures.taken }
 
 pub returns-in-Ok-clause-held : goal.returns-in-Ok-clause-held
 returns-in-Ok-clause-held g c = rw (c.set_room.ensures, c.requires.world) (nothing_held _ nothing_played.records _ (len-empty _ _))

@@ -5,37 +5,42 @@ use Rattle.splitting.proofs.Fresh.{follow_same}
 use Rattle.splitting.proofs.Roomed.{may_have_room_anew}
 use Rattle.world.specs.WorldState.{AreHolders, WorldState, stale}
 use Rattle.term_pool.specs.declared.fault.PoolFault.TheVariants.{Full, OutOfMemory}
-use Rattle.session.specs.Remapping.{HoldsWithin}
 use Rattle.session.proofs.Pages.{told_all, told_before, told_but_last, told_next, told_none}
 use Rattle.session.proofs.Reports.{never_unprinted, still_silent}
 use Rattle.session.proofs.Versions.{Remaps, remaps_all, remaps_all_roomed, remaps_full, remaps_next, remaps_none}
 use Rattle.session.proofs.remapping.take_mapping.Goals as goal
 
-pub loop-world-init : goal.loop-world-init
-loop-world-init g c = record {
+pub loop-replay-init : goal.loop-replay-init
+loop-replay-init g c = rw (← c.replay.view_is) (record {
   told = told_none _ _ _ _ _ _ c.set_mapping.ensures.set (remaps_none _ _ _ c.set_mapping.ensures.set c.set_mapping.ensures.holders);
   written = record { faults = omega arith; most = refl };
-  follow = follow_same c.args.graphs.now c.args.world.now c.set_mapping.new.self (ap (λ (w : WorldState). w.replay.played.records) c.set_mapping.ensures.set) (ap (λ (w : WorldState). w.by_two) c.set_mapping.ensures.set)
-      (ap (λ (w : WorldState). w.limit) c.set_mapping.ensures.set) c.requires;
-  routes = refl;
+  kept = (
+    follow_same c.replay.inside.graphs c.replay.inside.world c.set_mapping.new.self (ap (λ (w : WorldState). w.replay.played.records) c.set_mapping.ensures.set) (ap (λ (w : WorldState). w.by_two) c.set_mapping.ensures.set)
+        (ap (λ (w : WorldState). w.limit) c.set_mapping.ensures.set) c.replay.invariant.0,
+    c.replay.invariant.1,
+  );
+  same = record { limit = ap (λ (w : WorldState). w.limit) c.set_mapping.ensures.set; routes = refl; earlier = refl };
   silent = λ answers. refl;
-}
+})
 
-pub loop-world-preserved : goal.loop-world-preserved
-loop-world-preserved g c =
-    let b = c.loop-world.invariant in
+pub loop-replay-preserved : goal.loop-replay-preserved
+loop-replay-preserved g c =
+    let b = c.loop-replay.invariant in
     let call = c.in-Ok-Some.ensures in
-    let some : 0 < length (stale c.loop-world.world) = omega (arith, c.stale.ensures.count, c.loop-world-test.true) in
-    let remaps : Remaps c.args.version c.args.world.now c.remap_next_with.new.self = remaps_next _ _ c.loop-world.world c.remap_next_with.new.self b.told.remaps call.ok c.remap_next_with.ensures.held c.remap_next_with.ensures.holders call.within in
+    let some : 0 < length (stale c.loop-replay.replay-inside.world) = omega (arith, c.stale.ensures.count, c.loop-replay-test.true) in
+    let remaps : Remaps c.args.version c.args.replay.now.world c.remap_next_with.new.self = remaps_next _ _ c.loop-replay.replay-inside.world c.remap_next_with.new.self b.told.remaps call.ok c.remap_next_with.ensures.holders call.within in
     let changed = rw (c.telling.ensures, c.in-Ok-Some.field-0-is) at call.change in
     let told = c.in-Ok.ensures.tells _ _ changed in
     record {
-      told = told_next _ _ _ _ _ c.loop-world.world c.remap_next_with.new.self _ _ _ b.told call.ok some c.in-Ok.now remaps told;
+      told = told_next _ _ _ _ _ c.loop-replay.replay-inside.world c.remap_next_with.new.self _ _ _ b.told call.ok some c.in-Ok.now remaps told;
       written = record { faults = omega (arith, b.written.faults, c.in-Ok.ensures.written.faults); most = c.in-Ok.ensures.written.most ∙ b.written.most };
-      follow = subst (MayFollow c.follow_remapping.new.graphs) (sym call.ok)
-          (c.follow_remapping.ensures.follow c.loop-world.world (sym (rw c.in-Ok-Some.field-0-is at call.entity)) (rw c.in-Ok-Some.field-0-is at call.triples)
-          (subst (λ (w : WorldState). AreHolders w.by_two w.replay.played.records) call.ok c.remap_next_with.ensures.holders) b.follow);
-      routes = c.follow_remapping.ensures.routes ∙ b.routes;
+      kept = (
+        subst (MayFollow c.follow_remapping.new.graphs) (sym call.ok)
+            (c.follow_remapping.ensures.follow c.loop-replay.replay-inside.world (sym (rw c.in-Ok-Some.field-0-is at call.entity)) (rw c.in-Ok-Some.field-0-is at call.triples)
+            (subst (λ (w : WorldState). AreHolders w.by_two w.replay.played.records) call.ok c.remap_next_with.ensures.holders) b.kept.0),
+        b.kept.1,
+      );
+      same = record { limit = remaps.limit; routes = c.follow_remapping.ensures.routes ∙ b.same.routes; earlier = b.same.earlier };
       silent = λ answers. still_silent _ _ _ _ _ _ answers told ∙ b.silent answers;
     }
 
@@ -47,45 +52,33 @@ follow_remapping-requires-clause-fit g c =
 pub follow_remapping-requires-clause-room : goal.follow_remapping-requires-clause-room
 follow_remapping-requires-clause-room g c =
     let call = c.in-Ok-Some.ensures in
-    may_have_room_anew c.loop-world.graphs c.loop-world.world _ _ c.loop-world.invariant.follow (sym (rw c.in-Ok-Some.field-0-is at call.entity)) (rw c.in-Ok-Some.field-0-is at call.triples) call.within
+    may_have_room_anew c.loop-replay.replay-inside.graphs c.loop-replay.replay-inside.world _ _ c.loop-replay.invariant.kept.0 (sym (rw c.in-Ok-Some.field-0-is at call.entity)) (rw c.in-Ok-Some.field-0-is at call.triples) call.within
 
-pub loop-world-smaller : goal.loop-world-smaller
-loop-world-smaller g c =
+pub loop-replay-smaller : goal.loop-replay-smaller
+loop-replay-smaller g c =
     let fewer = rw c.in-Ok-Some.field-0-is at c.in-Ok-Some.ensures.fewer in
     omega (arith, fewer)
 
 -- ---- a page that isn't told wholly
 
-pub returns-in-Err-clause-replay : goal.returns-in-Err-clause-replay
-returns-in-Err-clause-replay g c =
+pub returns-in-Err-clause-state : goal.returns-in-Err-clause-state
+returns-in-Err-clause-state g c =
     let call = c.in-Ok-Some.ensures in
-    let remaps : Remaps c.args.version c.args.world.now c.remap_next_with.new.self = remaps_next _ _ c.loop-world.world c.remap_next_with.new.self c.loop-world.invariant.told.remaps call.ok c.remap_next_with.ensures.held c.remap_next_with.ensures.holders call.within in
+    let remaps : Remaps c.args.version c.args.replay.now.world c.remap_next_with.new.self = remaps_next _ _ c.loop-replay.replay-inside.world c.remap_next_with.new.self c.loop-replay.invariant.told.remaps call.ok c.remap_next_with.ensures.holders call.within in
     remaps.replay
-
-pub returns-in-Err-clause-limit : goal.returns-in-Err-clause-limit
-returns-in-Err-clause-limit g c =
-    let call = c.in-Ok-Some.ensures in
-    let remaps : Remaps c.args.version c.args.world.now c.remap_next_with.new.self = remaps_next _ _ c.loop-world.world c.remap_next_with.new.self c.loop-world.invariant.told.remaps call.ok c.remap_next_with.ensures.held c.remap_next_with.ensures.holders call.within in
-    remaps.limit
-
-pub returns-in-Err-clause-held : goal.returns-in-Err-clause-held
-returns-in-Err-clause-held g c =
-    let call = c.in-Ok-Some.ensures in
-    let remaps : Remaps c.args.version c.args.world.now c.remap_next_with.new.self = remaps_next _ _ c.loop-world.world c.remap_next_with.new.self c.loop-world.invariant.told.remaps call.ok c.remap_next_with.ensures.held c.remap_next_with.ensures.holders call.within in
-    remaps.held
 
 pub returns-in-Err-clause-err : goal.returns-in-Err-clause-err
 returns-in-Err-clause-err g c =
-    let b = c.loop-world.invariant in
+    let b = c.loop-replay.invariant in
     let call = c.in-Ok-Some.ensures in
-    let some : 0 < length (stale c.loop-world.world) = omega (arith, c.stale.ensures.count, c.loop-world-test.true) in
-    let remaps : Remaps c.args.version c.args.world.now c.remap_next_with.new.self = remaps_next _ _ c.loop-world.world c.remap_next_with.new.self b.told.remaps call.ok c.remap_next_with.ensures.held c.remap_next_with.ensures.holders call.within in
+    let some : 0 < length (stale c.loop-replay.replay-inside.world) = omega (arith, c.stale.ensures.count, c.loop-replay-test.true) in
+    let remaps : Remaps c.args.version c.args.replay.now.world c.remap_next_with.new.self = remaps_next _ _ c.loop-replay.replay-inside.world c.remap_next_with.new.self b.told.remaps call.ok c.remap_next_with.ensures.holders call.within in
     let changed = rw (c.telling.ensures, c.in-Ok-Some.field-0-is) at call.change in
-    told_but_last _ _ _ _ _ c.loop-world.world c.remap_next_with.new.self _ _ _ b.told call.ok some c.in-Err.why remaps b.written.faults (c.in-Err.ensures.tells _ _ changed)
+    told_but_last _ _ _ _ _ c.loop-replay.replay-inside.world c.remap_next_with.new.self _ _ _ b.told call.ok some c.in-Err.why remaps b.written.faults (c.in-Err.ensures.tells _ _ changed)
 
 pub returns-in-Err-clause-written : goal.returns-in-Err-clause-written
 returns-in-Err-clause-written g c =
-    let b = c.loop-world.invariant in
+    let b = c.loop-replay.invariant in
     record { faults = omega (arith, b.written.faults, c.in-Err.ensures.written.faults); most = c.in-Err.ensures.written.most ∙ b.written.most }
 
 pub returns-in-Err-clause-silent : goal.returns-in-Err-clause-silent
@@ -95,79 +88,61 @@ returns-in-Err-clause-silent g c =
 
 -- ---- no room
 
-pub returns-in-Err-Full-clause-replay : goal.returns-in-Err-Full-clause-replay
-returns-in-Err-Full-clause-replay g c = ap (λ (w : WorldState). w.replay) c.in-Err-Full.ensures.err ∙ c.loop-world.invariant.told.remaps.replay
-
-pub returns-in-Err-Full-clause-limit : goal.returns-in-Err-Full-clause-limit
-returns-in-Err-Full-clause-limit g c = ap (λ (w : WorldState). w.limit) c.in-Err-Full.ensures.err ∙ c.loop-world.invariant.told.remaps.limit
-
-pub returns-in-Err-Full-clause-held : goal.returns-in-Err-Full-clause-held
-returns-in-Err-Full-clause-held g c = λ held. subst (HoldsWithin c.args.world.now.limit) (sym c.in-Err-Full.ensures.err) (c.loop-world.invariant.told.remaps.held held)
+pub returns-in-Err-Full-clause-state : goal.returns-in-Err-Full-clause-state
+returns-in-Err-Full-clause-state g c = ap (λ (w : WorldState). w.replay) c.in-Err-Full.ensures.err ∙ c.loop-replay.invariant.told.remaps.replay
 
 pub returns-in-Err-Full-clause-err : goal.returns-in-Err-Full-clause-err
 returns-in-Err-Full-clause-err g c =
-    let b = c.loop-world.invariant in
+    let b = c.loop-replay.invariant in
     let call = c.in-Err-Full.ensures in
-    let some : 0 < length (stale c.loop-world.world) = omega (arith, c.stale.ensures.count, c.loop-world-test.true) in
-    told_before _ Full _ _ _ _ c.loop-world.world c.remap_next_with.new.self _ _ b.told call.err (remaps_full _ _ c.loop-world.world c.remap_next_with.new.self b.told.remaps call.err some (call.full (ap Err c.in-Err-Full.field-0-is)))
+    let some : 0 < length (stale c.loop-replay.replay-inside.world) = omega (arith, c.stale.ensures.count, c.loop-replay-test.true) in
+    told_before _ Full _ _ _ _ c.loop-replay.replay-inside.world c.remap_next_with.new.self _ _ b.told call.err (remaps_full _ _ c.loop-replay.replay-inside.world c.remap_next_with.new.self b.told.remaps call.err some (call.full (ap Err c.in-Err-Full.field-0-is)))
 
 pub returns-in-Err-Full-clause-written : goal.returns-in-Err-Full-clause-written
-returns-in-Err-Full-clause-written g c = c.loop-world.invariant.written
+returns-in-Err-Full-clause-written g c = c.loop-replay.invariant.written
 
 pub returns-in-Err-Full-clause-silent : goal.returns-in-Err-Full-clause-silent
-returns-in-Err-Full-clause-silent g c = c.loop-world.invariant.silent
+returns-in-Err-Full-clause-silent g c = c.loop-replay.invariant.silent
 
 -- ---- no memory
 
-pub returns-in-Err-OutOfMemory-clause-replay : goal.returns-in-Err-OutOfMemory-clause-replay
-returns-in-Err-OutOfMemory-clause-replay g c = ap (λ (w : WorldState). w.replay) c.in-Err-OutOfMemory.ensures.err ∙ c.loop-world.invariant.told.remaps.replay
-
-pub returns-in-Err-OutOfMemory-clause-limit : goal.returns-in-Err-OutOfMemory-clause-limit
-returns-in-Err-OutOfMemory-clause-limit g c = ap (λ (w : WorldState). w.limit) c.in-Err-OutOfMemory.ensures.err ∙ c.loop-world.invariant.told.remaps.limit
-
-pub returns-in-Err-OutOfMemory-clause-held : goal.returns-in-Err-OutOfMemory-clause-held
-returns-in-Err-OutOfMemory-clause-held g c = λ held. subst (HoldsWithin c.args.world.now.limit) (sym c.in-Err-OutOfMemory.ensures.err) (c.loop-world.invariant.told.remaps.held held)
+pub returns-in-Err-OutOfMemory-clause-state : goal.returns-in-Err-OutOfMemory-clause-state
+returns-in-Err-OutOfMemory-clause-state g c = ap (λ (w : WorldState). w.replay) c.in-Err-OutOfMemory.ensures.err ∙ c.loop-replay.invariant.told.remaps.replay
 
 pub returns-in-Err-OutOfMemory-clause-err : goal.returns-in-Err-OutOfMemory-clause-err
 returns-in-Err-OutOfMemory-clause-err g c =
-    let b = c.loop-world.invariant in
+    let b = c.loop-replay.invariant in
     let call = c.in-Err-OutOfMemory.ensures in
-    told_before _ OutOfMemory _ _ _ _ c.loop-world.world c.remap_next_with.new.self _ _ b.told call.err tt
+    told_before _ OutOfMemory _ _ _ _ c.loop-replay.replay-inside.world c.remap_next_with.new.self _ _ b.told call.err tt
 
 pub returns-in-Err-OutOfMemory-clause-written : goal.returns-in-Err-OutOfMemory-clause-written
-returns-in-Err-OutOfMemory-clause-written g c = c.loop-world.invariant.written
+returns-in-Err-OutOfMemory-clause-written g c = c.loop-replay.invariant.written
 
 pub returns-in-Err-OutOfMemory-clause-silent : goal.returns-in-Err-OutOfMemory-clause-silent
-returns-in-Err-OutOfMemory-clause-silent g c = c.loop-world.invariant.silent
+returns-in-Err-OutOfMemory-clause-silent g c = c.loop-replay.invariant.silent
 
 -- ---- all of them
 
-pub returns-clause-replay : goal.returns-clause-replay
-returns-clause-replay g c = c.loop-world.invariant.told.remaps.replay
-
-pub returns-clause-limit : goal.returns-clause-limit
-returns-clause-limit g c = c.loop-world.invariant.told.remaps.limit
-
-pub returns-clause-held : goal.returns-clause-held
-returns-clause-held g c = c.loop-world.invariant.told.remaps.held
+pub returns-clause-state : goal.returns-clause-state
+returns-clause-state g c = c.loop-replay.invariant.told.remaps.replay
 
 pub returns-clause-ok : goal.returns-clause-ok
 returns-clause-ok g c =
-    let none : c.stale.result ≡ 0 = omega (arith, c.loop-world-test.false) in
-    remaps_all _ _ c.loop-world.world c.loop-world.invariant.told.remaps (c.stale.ensures.none none)
+    let none : c.stale.result ≡ 0 = omega (arith, c.loop-replay-test.false) in
+    remaps_all _ _ c.loop-replay.replay-inside.world c.loop-replay.invariant.told.remaps (c.stale.ensures.none none)
 
 pub returns-clause-roomed : goal.returns-clause-roomed
 returns-clause-roomed g c =
-    let none : length (stale c.loop-world.world) ≡ 0 = omega (arith, c.stale.ensures.count, c.loop-world-test.false) in
-    remaps_all_roomed _ _ c.loop-world.world c.loop-world.invariant.told.remaps none
+    let none : length (stale c.loop-replay.replay-inside.world) ≡ 0 = omega (arith, c.stale.ensures.count, c.loop-replay-test.false) in
+    remaps_all_roomed _ _ c.loop-replay.replay-inside.world c.loop-replay.invariant.told.remaps none
 
 pub returns-clause-tells : goal.returns-clause-tells
 returns-clause-tells g c =
-    let none : length (stale c.loop-world.world) ≡ 0 = omega (arith, c.stale.ensures.count, c.loop-world-test.false) in
-    told_all _ _ _ _ _ c.loop-world.world _ _ c.loop-world.invariant.told none
+    let none : length (stale c.loop-replay.replay-inside.world) ≡ 0 = omega (arith, c.stale.ensures.count, c.loop-replay-test.false) in
+    told_all _ _ _ _ _ c.loop-replay.replay-inside.world _ _ c.loop-replay.invariant.told none
 
 pub returns-clause-written : goal.returns-clause-written
-returns-clause-written g c = c.loop-world.invariant.written
+returns-clause-written g c = c.loop-replay.invariant.written
 
 pub returns-clause-silent : goal.returns-clause-silent
-returns-clause-silent g c = c.loop-world.invariant.silent
+returns-clause-silent g c = c.loop-replay.invariant.silent

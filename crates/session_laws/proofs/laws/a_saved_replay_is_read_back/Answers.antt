@@ -2,8 +2,7 @@
 use Rattle.std.proofs.Common.{◌≡◌, sym, subst, IfSome, List, [], Option, Some, ℕ}
 use Rattle.snapshot.specs.File.{saved_in_bytes}
 use Rattle.session.specs.Headline.{numbers_saved}
-use Rattle.session.specs.Moment.{horizon_at, start_of}
-use Rattle.session.specs.Saving.{saved_at}
+use Rattle.session.specs.Moment.{horizon_at, start_of, saved_at}
 use Rattle.session_laws.proofs.OneRun.{first_stands}
 use Rattle.session_laws.proofs.Reloading.{saved_bytes, saved_rests}
 use Rattle.session_laws.proofs.laws.a_saved_replay_is_read_back.Goals as goal

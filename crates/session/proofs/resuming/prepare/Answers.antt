@@ -4,7 +4,7 @@ use Rattle.std.specs.FinMap.{len-empty}
 use Rattle.replay_model.specs.Play.{nothing_played}
 use Rattle.world.proofs.Rooming.{nothing_held}
 use Rattle.session.proofs.FromNothing.{still_nothing}
-use Rattle.session.proofs.resuming.refuse.Goals as goal
+use Rattle.session.proofs.resuming.prepare.Goals as goal
 
 pub set_room-requires : goal.set_room-requires
 set_room-requires c = rw c.requires (len-empty _ _)

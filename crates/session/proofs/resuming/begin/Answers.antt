@@ -1,7 +1,7 @@
 -- The world is that at the start.
 use Rattle.std.proofs.Common.{◌∙◌}
 use Rattle.std.specs.FinMap.{len-empty}
-use Rattle.session.proofs.replaying.begin.Goals as goal
+use Rattle.session.proofs.resuming.begin.Goals as goal
 
 pub set_room-requires : goal.set_room-requires
 set_room-requires c = rw c.set_horizon.ensures.replay (len-empty _ _)

@@ -1,0 +1,119 @@
+-- What the arguments ask for: the run of a plan, the most terms that it leaves room for, and whether it may save; and what a drill and a
+-- follower leave.
+use Rattle.std.specs.Prelude.{◌≡◌, ◌⊎◌, ℕ, false, List, None, Some, Option, IfSome, MatchOption}
+use Rattle.revisions.specs.Revisions.{Contents}
+use Rattle.graph_routes.specs.declared.routes.Route.{Route}
+use Rattle.graph_routes.specs.Routes.{AreRoutesIn}
+use Rattle.words.specs.Options.{SplitChoices, closes, max_terms_of, FollowChoices, follow_max_bytes_of}
+use Rattle.words.specs.Plan.{plan_of}
+use Rattle.words.specs.declared.plan.Plan.{Plan}
+use Rattle.words.specs.declared.plan.Plan.TheVariants.{Replay, Drill, Patches, Follow, Split}
+use Rattle.session.specs.declared.report.Report.TheVariants.{Answers, Changes}
+use Rattle.session.specs.declared.status.Status.{Status}
+use Rattle.session.specs.Moment.{Run, run_of, Stage}
+use Rattle.session.specs.Stop.{MayLeavePart, stop_of, stop_of_follow}
+use Rattle.std.specs.List.{flat_map}
+use Rattle.wq_io.specs.Streams.{after_known}
+use Rattle.replay_model.specs.ReplayState.{ReplayState}
+use Rattle.text_output.specs.declared.write.Unwritten.{Unwritten}
+use Rattle.text_output.specs.declared.write.Unwritten.TheVariants.{WriteFault as NotWritten, OutOfMemory as UnwrittenOutOfMemory}
+use Rattle.text_output.specs.Printing.{IsCutShort, Output}
+use Rattle.drill_replay.specs.Playing.{HasBegun}
+use Rattle.drill_replay.specs.Summary.{drilled, summary_lines, summary_of}
+use Rattle.session.specs.declared.status.Status.TheVariants.{Ok as Ended, BadWords, BadLine, ReadFault, WriteFault, TooLong, StoreFull, OutOfMemory, BadSnapshot}
+use Rattle.following.specs.declared.stop.FollowStop.{FollowStop}
+use Rattle.following.specs.Following.{Ending, FollowMoment, StoppedFollowing}
+use Rattle.following.specs.Reading.{TakesLinesByNeed}
+use Rattle.session.specs.declared.stop.Stop.{Stop}
+
+-- the arguments ask for a split by a text that has no routes
+pub record HasNoRoutes (words : List (List ℕ)) : Type 0 where
+  pub choices : SplitChoices
+  pub plan : plan_of words ≡ Some (Split choices)
+  pub none : (routes : List Route) → AreRoutesIn choices.route routes → ⊥
+
+-- the arguments are no plan, or ask for a split by a text that has no routes
+abbrev pub IsNotUnderstood : List (List ℕ) → Type 0
+IsNotUnderstood words = (plan_of words ≡ None) ⊎ HasNoRoutes words
+
+-- a split into the graphs of these routes
+pub record IsSplitRun (choices : SplitChoices) (contents : Option Contents) (run : Run) : Type 0 where
+  pub routes : List Route
+  pub are : AreRoutesIn choices.route routes
+  pub is : run ≡ run_of (Some routes) Answers contents choices.replay
+
+-- a plan is this run over a source with these contents: a replay reports answers and a patch stream changes, and a split reports the answers
+-- of each graph; a drill and a follower are none
+abbrev pub IsRunOf : Plan → Option Contents → Run → Type 0
+IsRunOf (Replay choices) contents run = run ≡ run_of None Answers contents choices
+IsRunOf (Patches choices) contents run = run ≡ run_of None Changes contents choices
+IsRunOf (Split choices) contents run = IsSplitRun choices contents run
+IsRunOf (Drill size) contents run = ⊥
+IsRunOf (Follow choices) contents run = ⊥
+
+-- the most terms that a plan leaves room for: as many as its options say, and for a drill and a follower always the same
+abbrev pub limit_of_plan : Plan → ℕ
+limit_of_plan (Replay choices) = max_terms_of choices
+limit_of_plan (Patches choices) = max_terms_of choices
+limit_of_plan (Drill size) = 20000000
+limit_of_plan (Follow choices) = 20000000
+limit_of_plan (Split choices) = max_terms_of choices.replay
+
+-- a run with this plan and status may have written a snapshot or a part of one: `--save` was given, and the run ended well, or stopped because
+-- a write failed or memory was refused
+abbrev pub MaySave : Plan → Status → Type 0
+MaySave (Replay choices) status = (closes choices ≡ false) × IfSome (stop_of status) MayLeavePart
+MaySave (Patches choices) status = (closes choices ≡ false) × IfSome (stop_of status) MayLeavePart
+MaySave (Split choices) status = (closes choices.replay ≡ false) × IfSome (stop_of status) MayLeavePart
+MaySave (Drill size) status = ⊥
+MaySave (Follow choices) status = ⊥
+
+-- ---- what a run of a drill leaves
+
+-- the text of a drill's summary
+abbrev pub summary_text : ℕ → List ℕ
+summary_text size = flat_map (λ line. line) (summary_lines (summary_of size))
+
+-- the drill was run to its end, and its summary was printed, and nothing else
+pub record HasDrilled (size : ℕ) (old new : Output) (world : ReplayState) : Type 0 where
+  pub is : world ≡ drilled size
+  pub says : new.bytes ≡ after_known old.bytes (summary_text size)
+
+-- how far a drill came whose summary was not printed wholly: to its end where a write failed, and to a first part where memory
+-- was refused
+abbrev pub HasCome : Unwritten → ℕ → ReplayState → Type 0
+HasCome NotWritten size world = world ≡ drilled size
+HasCome UnwrittenOutOfMemory size world = HasBegun size world
+
+-- a prefix of the summary was printed, and nothing else; where a write failed, not all of it
+pub record DrillStopped (why : Unwritten) (size : ℕ) (old new : Output) (world : ReplayState) : Type 0 where
+  pub has_come : HasCome why size world
+  pub cut_short : IsCutShort why (summary_text size) old new
+
+-- how a run of a drill ends, and what it leaves then; it ends in no other way
+abbrev pub IsDrillEnd : Status → ℕ → Output → Output → ReplayState → Type 0
+IsDrillEnd Ended size old new world = HasDrilled size old new world
+IsDrillEnd BadWords size old new world = ⊥
+IsDrillEnd (BadLine number cause) size old new world = ⊥
+IsDrillEnd ReadFault size old new world = ⊥
+IsDrillEnd WriteFault size old new world = DrillStopped NotWritten size old new world
+IsDrillEnd TooLong size old new world = ⊥
+IsDrillEnd StoreFull size old new world = ⊥
+IsDrillEnd OutOfMemory size old new world = DrillStopped UnwrittenOutOfMemory size old new world
+IsDrillEnd (BadSnapshot number) size old new world = ⊥
+
+abbrev pub DrillEnding : Status → ℕ → Stage → Stage → Type 0
+DrillEnding status size before now = IsDrillEnd status size before.output now.output now.world
+
+-- ---- what a run of a follower leaves
+
+-- a follower stopped, for a cause
+pub record FollowStopped (stop : Stop) (choices : FollowChoices) (before now : FollowMoment) : Type 0 where
+  pub why : FollowStop
+  pub is : stop ≡ stop_of_follow why
+  pub stopped : StoppedFollowing why choices before now
+
+-- what a follower that was begun leaves: it ended with Ok or stopped for a cause; and what it took of its input is bounded
+pub record FollowEnding (status : Status) (choices : FollowChoices) (before now : FollowMoment) : Type 0 where
+  pub outcome : MatchOption (stop_of status) (Ending choices before now) (λ stop. FollowStopped stop choices before now)
+  pub taken : IfSome before.input.left (λ bytes. TakesLinesByNeed (follow_max_bytes_of choices) bytes now.input.left)
