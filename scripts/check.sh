@@ -112,10 +112,10 @@ run_checks() {
   check wrapper 240 script scripts/try_wrapper.sh
   [ "$WDQ" != "$built" ] || check program 900 rt ./wdq drill --size 1
   for run in examples/*/run.sh; do
-    check_program "${run%/run.sh}" 240 '' "$run"
+    check_program "${run%/run.sh}" 480 '' "$run"
   done
   check_program saves 120 '' scripts/kill_save.sh 20
-  check_program pages 180 python3 scripts/slow_pages.py --once --most 8 "$WDQ"
+  check_program pages 180 python3 scripts/slow_pages.py --once --most 20 "$WDQ"
 }
 
 run_checks
