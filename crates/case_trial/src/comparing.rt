@@ -56,78 +56,42 @@ fn difference(
     expected: &Expected,
     left: &Left,
 ) -> Result<Option<String>, AllocError> {
-    let mut found = None;
-    see_streams(alloc, expected, left, &mut found)?;
-    see_world(alloc, expected, left, &mut found)?;
-    Ok(found)
+    let found = differing_texts(alloc, expected, left)?;
+    if found.is_some() {
+        return Ok(found);
+    }
+    let found = differing_numbers(alloc, "fetches", expected.fetches, left.fetches)?;
+    if found.is_some() {
+        return Ok(found);
+    }
+    differing_numbers(alloc, "waiting events", expected.waiting, left.waiting)
 }
 
-// Sees what differs in the status, and in what was printed and saved.
-fn see_streams(
+// What differs first in the texts that are looked at: of the run, and of the world.
+fn differing_texts(
     alloc: Global,
     expected: &Expected,
     left: &Left,
-    found: &mut Option<String>,
-) -> Result<(), AllocError> {
-    see(
-        alloc,
-        found,
-        "status",
-        Some(expected.status.as_bytes()),
-        left.status.as_bytes(),
-    )?;
-    see(
-        alloc,
-        found,
-        "output",
-        Some(expected.out.as_slice()),
-        left.out.as_slice(),
-    )?;
-    see(
-        alloc,
-        found,
-        "saved",
-        told(&expected.saved),
-        left.saved.as_slice(),
-    )
-}
-
-// Sees what differs in the world, and in the counts.
-fn see_world(
-    alloc: Global,
-    expected: &Expected,
-    left: &Left,
-    found: &mut Option<String>,
-) -> Result<(), AllocError> {
-    see(
-        alloc,
-        found,
-        "records",
-        told(&expected.records),
-        left.records.as_bytes(),
-    )?;
-    see(
-        alloc,
-        found,
-        "side output",
-        told(&expected.side),
-        left.side.as_bytes(),
-    )?;
-    see(
-        alloc,
-        found,
-        "owners",
-        told(&expected.owners),
-        left.owners.as_bytes(),
-    )?;
-    see_numbers(alloc, found, "fetches", expected.fetches, left.fetches)?;
-    see_numbers(
-        alloc,
-        found,
-        "waiting events",
-        expected.waiting,
-        left.waiting,
-    )
+) -> Result<Option<String>, AllocError> {
+    let texts = [
+        (
+            "status",
+            Some(expected.status.as_bytes()),
+            left.status.as_bytes(),
+        ),
+        ("output", Some(expected.out.as_slice()), left.out.as_slice()),
+        ("saved", told(&expected.saved), left.saved.as_slice()),
+        ("records", told(&expected.records), left.records.as_bytes()),
+        ("side output", told(&expected.side), left.side.as_bytes()),
+        ("owners", told(&expected.owners), left.owners.as_bytes()),
+    ];
+    for (what, expected, left) in &texts {
+        let found = differing_told(alloc, what, *expected, left)?;
+        if found.is_some() {
+            return Ok(found);
+        }
+    }
+    Ok(None)
 }
 
 // A section that is looked at.
@@ -138,33 +102,15 @@ fn told(section: &Option<Vec<u8>>) -> Option<&[u8]> {
     }
 }
 
-// Sees how two texts differ, where something is expected and nothing was found before.
-fn see(
+// How two texts differ, where one is expected.
+fn differing_told(
     alloc: Global,
-    found: &mut Option<String>,
     what: &str,
     expected: Option<&[u8]>,
     left: &[u8],
-) -> Result<(), AllocError> {
+) -> Result<Option<String>, AllocError> {
     match expected {
-        Some(expected) if found.is_none() => {
-            *found = differing(alloc, what, expected, left)?;
-            Ok(())
-        }
-        _ => Ok(()),
+        Some(expected) => differing(alloc, what, expected, left),
+        None => Ok(None),
     }
-}
-
-// Sees how two numbers differ, where one is expected and nothing was found before.
-fn see_numbers(
-    alloc: Global,
-    found: &mut Option<String>,
-    what: &str,
-    expected: Option<u64>,
-    left: u64,
-) -> Result<(), AllocError> {
-    if found.is_none() {
-        *found = differing_numbers(alloc, what, expected, left)?;
-    }
-    Ok(())
 }
