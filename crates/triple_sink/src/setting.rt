@@ -4,7 +4,7 @@ use entity_model::MappingVersion;
 use std::alloc::Global;
 
 /// What a walk over a page is told besides the page.
-#[derive(Clone, Copy, Debug)]
+#[derive(Clone, Copy)]
 pub struct Setting {
     /// Where memory is taken from.
     pub alloc: Global,

@@ -66,8 +66,15 @@ impl TripleSink for List<Triple> {
         object: &TermRef<'_>,
     ) -> Result<(), OutOfMemory> {
         let subject = subject.copy(alloc)?;
-        let predicate = predicate.copy(alloc)?;
-        let object = object.copy(alloc)?;
+        let Ok(predicate) = predicate.copy(alloc) else {
+            drop(subject);
+            return Err(OutOfMemory);
+        };
+        let Ok(object) = object.copy(alloc) else {
+            drop(subject);
+            drop(predicate);
+            return Err(OutOfMemory);
+        };
         self.push(Triple {
             subject,
             predicate,

@@ -6,7 +6,7 @@ use crate::term_ref::TermRef;
 
 /// The subject of several triples, and the index of one that has it, among those that a sink holds, where one is known. So a sink that
 /// writes texts needn't look at the text of such a subject.
-#[derive(Clone, Copy, Debug)]
+#[derive(Clone, Copy)]
 pub struct Subject<'a> {
     /// The subject.
     pub term: TermRef<'a>,

@@ -15,7 +15,7 @@ use std::alloc::Global;
 
 /// A term of RDF that borrows its texts, or an IRI by its word in the vocabulary, or by its namespace and what stands
 /// behind that.
-#[derive(Clone, Copy, Debug)]
+#[derive(Clone, Copy)]
 pub enum TermRef<'a> {
     /// The IRI of a predicate of the dump.
     Predicate(Predicate),
@@ -141,7 +141,6 @@ fn letter(kind: IdKind) -> &'static str
 }
 
 // Appends an IRI in its brackets: a namespace, a letter and a number.
-#[tactic(auto, using(crate::proofs::Written::numbered_utf8, rdf_term::proofs::Appending::still_front, std::proofs::lemmas::List::append_assoc))]
 fn write_numbered(
     front: &str,
     letter: &str,
@@ -159,7 +158,6 @@ fn write_numbered(
 }
 
 // Appends an IRI in its brackets: a namespace and a name.
-#[tactic(auto, using(crate::proofs::Written::named_utf8, rdf_term::proofs::Appending::still_front, std::proofs::lemmas::List::append_assoc))]
 fn write_named(front: &str, name: &str, out: &mut Vec<u8>) -> Result<(), OutOfMemory>
     ensures text { Appends out.old.items out.new.items (in_brackets (front.now ++ name.now)) result }
     ensures utf8 { IsUtf8 (in_brackets (front.now ++ name.now)) }
@@ -171,7 +169,6 @@ fn write_named(front: &str, name: &str, out: &mut Vec<u8>) -> Result<(), OutOfMe
 }
 
 // Appends an IRI in its brackets.
-#[tactic(auto, using(rdf_term::proofs::Utf8Texts::iri_utf8, rdf_term::proofs::Appending::still_front, std::proofs::lemmas::List::append_assoc))]
 #[inline(always)]
 fn write_iri(iri: &str, out: &mut Vec<u8>) -> Result<(), OutOfMemory>
     ensures text { Appends out.old.items out.new.items (in_brackets iri.now) result }
@@ -183,7 +180,6 @@ fn write_iri(iri: &str, out: &mut Vec<u8>) -> Result<(), OutOfMemory>
 }
 
 // Appends a blank node by its label.
-#[tactic(auto, using(rdf_term::proofs::Utf8Texts::blank_utf8))]
 fn write_blank(label: &str, out: &mut Vec<u8>) -> Result<(), OutOfMemory>
     ensures text { Appends out.old.items out.new.items (95 ∷ 58 ∷ label.now) result }
     ensures utf8 { IsUtf8 (95 ∷ 58 ∷ label.now) }
@@ -201,7 +197,6 @@ fn write_plain(text: &str, out: &mut Vec<u8>) -> Result<(), OutOfMemory>
 }
 
 // Appends a literal with a language.
-#[tactic(auto, using(rdf_term::proofs::Utf8Texts::lang_utf8))]
 fn write_lang(text: &str, tag: &str, out: &mut Vec<u8>) -> Result<(), OutOfMemory>
     ensures text { Appends out.old.items out.new.items (quoted text.now (64 ∷ tag.now)) result }
     ensures utf8 { IsUtf8 (quoted text.now (64 ∷ tag.now)) }
@@ -212,7 +207,6 @@ fn write_lang(text: &str, tag: &str, out: &mut Vec<u8>) -> Result<(), OutOfMemor
 }
 
 // Appends a literal of another datatype than that of plain ones.
-#[tactic(auto, using(rdf_term::proofs::Utf8Texts::typed_utf8, rdf_term::proofs::Appending::still_front, std::proofs::lemmas::List::append_assoc))]
 fn write_typed(text: &str, datatype: &str, out: &mut Vec<u8>) -> Result<(), OutOfMemory>
     ensures text { Appends out.old.items out.new.items (quoted text.now (94 ∷ 94 ∷ in_brackets datatype.now)) result }
     ensures utf8 { IsUtf8 (quoted text.now (94 ∷ 94 ∷ in_brackets datatype.now)) }
