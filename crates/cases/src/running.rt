@@ -53,9 +53,8 @@ fn run_in_new_world(
     words: &[String],
     ports: &mut MemoryPorts,
 ) -> Result<(Status, World), OutOfMemory> {
-    let mut world = World::new(alloc, keys)?;
-    let status = run(alloc, keys, words, ports, &mut world);
-    Ok((status, world))
+    let world = World::new(alloc, keys)?;
+    Ok(run(alloc, keys, words, ports, world))
 }
 
 // What a run left.
