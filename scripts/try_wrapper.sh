@@ -424,7 +424,7 @@ done
 # --- What has to agree ---
 
 # The tables of the crate words: the names of the commands, and each option as the script writes it.
-words=$top/crates/words/specs/Table.antt
+words=$top/crates/arguments/specs/Table.antt
 table=$(grep -oE '^[a-z]+_table =|entry \(codes "--[a-z-]+"\) (Flag|Text|\(Number [0-9]+ [0-9]+)' "$words" | awk '
   sub(/_table =$/, "") { command = $0; next }
   { gsub(/entry \(codes "|"\)|\(Number /, ""); sub(/ /, " " command " "); sub(/Flag$/, "nothing"); sub(/Text$/, /^--route/ ? "routes" : /^--from/ ? "folder" : "file"); print }')
