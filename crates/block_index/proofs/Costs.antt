@@ -13,33 +13,22 @@ halved (suc e) gap next some half below =
     let same : suc e - 1 ≡ e = omega arith in
     (omega arith, subst (λ n. next < 2 ^ n) (sym same) less)
 
-pub left_start : (n start gap : ℕ) → gap ≤ n → Left n start start gap
-left_start n start gap few = (
-  omega arith,
-  λ d below.
-      let same : d + start - start ≡ d = omega arith in
-      let less : gap < 2 ^ d = omega arith in
-      (omega arith, subst (λ e. gap < 2 ^ e) (sym same) less),
-)
-
-pub left_step : (n start now gap next : ℕ) → 0 < gap → next + next ≤ gap → Left n start now gap → Left n start (now + 1) next
-left_step n start now gap next some half left = (
+-- a step, counted or not, that halves the gap
+pub left_step : (n start now then gap next : ℕ) → 0 < gap → next + next ≤ gap → now ≤ then → then ≤ now + 1 → Left n start now gap → Left n start then next
+left_step n start now then gap next some half forward step left = (
   let went = left.0 in omega arith,
   λ d below.
       let so_far = left.1 d below in
       let smaller = halved (d + start - now) gap next some half so_far.1 in
       let some_left : 0 < d + start - now = smaller.0 in
-      let same : d + start - (now + 1) ≡ d + start - now - 1 = omega arith in
-      (omega arith, subst (λ e. next < 2 ^ e) (sym same) smaller.1),
+      let less : next < 2 ^ (d + start - now) = omega (arith, so_far.1) in (
+        omega arith,
+        ⊎_elim
+            (λ more. let same : d + start - now - 1 ≡ d + start - then = omega arith in subst (λ e. next < 2 ^ e) same smaller.1)
+            (λ none. let same : d + start - now ≡ d + start - then = omega arith in subst (λ e. next < 2 ^ e) same less)
+            (cases_lt now then),
+      ),
 )
-
--- a search that has ended was within its bound
-pub left_end : (n start now gap : ℕ) → Left n start now gap → WithinSteps n 0 start now
-left_end n start now gap left = (left.0, λ d below. let so_far = (left.1 d below).0 in omega arith)
-
--- and so was one that ends with the next step
-pub left_found : (n start now gap : ℕ) → 0 < gap → Left n start now gap → WithinSteps n 0 start (now + 1)
-left_found n start now gap some left = let then = left_step n start now gap 0 some (omega arith) left in left_end n start (now + 1) 0 then
 
 -- a search of the blocks, and one of a block's keys after it
 pub both : (blocks keys all before between after : ℕ) → blocks ≤ all → keys ≤ 128 → WithinSteps blocks 0 before between → WithinSteps keys 0 between after → WithinSteps all 8 before after

@@ -19,7 +19,7 @@ module _ {K : Type 0} (R : K → K → Ordering) (to : K) where
       ]
 
   -- some keys were taken, one step each, and then memory was refused among those that are left
-  pub refused_left : (all left before some : List K) (old now new : ℕ) → ((rest : List K) → before ++ up_to R to (all ++ rest) ≡ some ++ up_to R to (left ++ rest)) → now + length before ≡ old + length some → new ≤ now + length (up_to R to left) → new ≤ old + length (up_to R to all)
+  pub refused_left : (all left before some : List K) (old now new : ℕ) → ((rest : List K) → before ++ up_to R to (all ++ rest) ≡ some ++ up_to R to (left ++ rest)) → now + length before ≤ old + length some → new ≤ now + length (up_to R to left) → new ≤ old + length (up_to R to all)
   refused_left all left before some old now new same cost few =
       let whole = ap (λ l. length (before ++ up_to R to l)) (append-nil all) in
       let part = ap (λ l. length (some ++ up_to R to l)) (append-nil left) in
@@ -27,7 +27,7 @@ module _ {K : Type 0} (R : K → K → Ordering) (to : K) where
       omega (arith, whole, part, long, length-append before (up_to R to all), length-append some (up_to R to left))
 
   -- the same where the first of two lists was taken whole
-  pub refused_second : (xs ys before some : List K) (one : Bool) (old now new : ℕ) → one ≡ true → Takes R to xs before some one → now + length before ≡ old + length some + cond one 0 1 → new ≤ now + length (up_to R to ys) → new ≤ old + length (up_to R to (xs ++ ys))
+  pub refused_second : (xs ys before some : List K) (one : Bool) (old now new : ℕ) → one ≡ true → Takes R to xs before some one → now + length before ≤ old + length some + cond one 0 1 → new ≤ now + length (up_to R to ys) → new ≤ old + length (up_to R to (xs ++ ys))
   refused_second xs ys before some one old now new goes took cost few =
       let none : cond {A = ℕ} one 0 1 ≡ 0 = ap (λ (b : Bool). cond b 0 1) goes in
       refused_left (xs ++ ys) ys before some old now new

@@ -1,16 +1,16 @@
 -- One step of a binary search, and where it ends.
-use Rattle.std.proofs.Common.{◌≡◌, ℕ, ◌+◌, ◌-◌, ◌/◌, ◌<◌, List, [], length, get_or, Ordering, Less, Equal, Greater, sym, ◌∙◌, ap, arith}
+use Rattle.std.proofs.Common.{◌≡◌, ℕ, ◌+◌, ◌-◌, ◌/◌, ◌<◌, ◌≤◌, List, [], length, get_or, Ordering, Less, Equal, Greater, sym, ◌∙◌, ap, arith}
 use Rattle.std.proofs.lemmas.List.{get_or_read}
 use Rattle.comparison_steps.specs.Steps.{Left}
 use Rattle.block_index.specs.Search.{IsAfter, IsBefore, IsAfterBlock, IsBeforeBlock, first_at}
 use Rattle.block_index.proofs.Costs.{left_step}
 
 -- the gap of a search after a step down or up from its middle
-pub left_down : (n start now low high : ℕ) → low < high → Left n start now (high - low) → Left n start (now + 1) (low + (high - low) / 2 - low)
-left_down n start now low high some left = left_step n start now (high - low) _ (omega arith) (omega arith) left
+pub left_down : (n start now then low high : ℕ) → low < high → now ≤ then → then ≤ now + 1 → Left n start now (high - low) → Left n start then (low + (high - low) / 2 - low)
+left_down n start now then low high some forward step left = left_step n start now then (high - low) _ (omega arith) (omega arith) forward step left
 
-pub left_up : (n start now low high : ℕ) → low < high → Left n start now (high - low) → Left n start (now + 1) (high - (low + (high - low) / 2 + 1))
-left_up n start now low high some left = left_step n start now (high - low) _ (omega arith) (omega arith) left
+pub left_up : (n start now then low high : ℕ) → low < high → now ≤ then → then ≤ now + 1 → Left n start now (high - low) → Left n start then (high - (low + (high - low) / 2 + 1))
+left_up n start now then low high some forward step left = left_step n start now then (high - low) _ (omega arith) (omega arith) forward step left
 
 module _ {K : Type 0} (R : K → K → Ordering) (k : K) where
   pub before_here : (xs : List K) (m : ℕ) (x : K) → m < length xs → x ≡ get_or xs m x → R k x ≡ Less → IsBefore R k xs m

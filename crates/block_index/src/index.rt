@@ -12,10 +12,9 @@ use crate::group::{Group, block_at, count_blocks};
 use crate::search::{behind, locate};
 use crate::taking::take_from;
 use base::{List, OutOfMemory};
-use comparison_steps::{Ranked, Steps};
+use comparison_steps::{Ranked, StepCounter};
 use std::alloc::Global;
 use std::marker::Model;
-use std::sync::ledger::Ledger;
 
 /// A set of keys in rising order, in blocks of 1 to 128 keys. Contracts see the list of its blocks, and by
 /// `keys_of` the list of its keys. The blocks stand in groups of 64 to 128, so that a block that comes or goes
@@ -79,9 +78,9 @@ impl<K: Ranked> BlockIndex<K> {
 
     /// Whether the key is there, which takes no memory. It takes at most as many steps as the number of keys
     /// has binary digits, and 8 more.
-    pub fn find<L: Ledger>(&self, key: K, steps: &mut Steps<L>) -> bool
+    pub fn find<C: StepCounter>(&self, key: K, steps: &mut C) -> bool
         ensures answer { result ≡ has K.cmp key (keys_of self.now) }
-        ensures cost { WithinSteps (length (keys_of self.now)) 8 steps.old steps.new }
+        ensures cost { WithinSteps (length (keys_of self.now)) 8 (C.total steps.old) (C.total steps.new) }
     {
         locate(&self.groups, &key, steps).found
     }
@@ -89,13 +88,13 @@ impl<K: Ranked> BlockIndex<K> {
     /// Puts a key in; false if it was there. After `OutOfMemory`, or if the key was there, nothing has changed. Otherwise at most two
     /// neighbouring blocks changed, in whose place at most two stand. It takes at most as many steps as the number of keys has binary
     /// digits, and 8 more.
-    pub fn insert<L: Ledger>(&mut self, key: K, steps: &mut Steps<L>) -> Result<bool, OutOfMemory>
+    pub fn insert<C: StepCounter>(&mut self, key: K, steps: &mut C) -> Result<bool, OutOfMemory>
         ensures answer { IfOk result (λ added. added ≡ not (has K.cmp key (keys_of self.old))) }
         ensures keys { OnOk result (keys_of self.new ≡ insert_key K.cmp (keys_of self.old) key) }
         ensures same { IfOk result (λ added. OnFalse added (self.new ≡ self.old)) }
         ensures blocks { OnOk result (ChangesTwo self.old self.new) }
         ensures err { OnErr result (self.new ≡ self.old) }
-        ensures cost { WithinSteps (length (keys_of self.old)) 8 steps.old steps.new }
+        ensures cost { WithinSteps (length (keys_of self.old)) 8 (C.total steps.old) (C.total steps.new) }
     {
         let position = locate(&self.groups, &key, steps);
         if position.found {
@@ -111,12 +110,12 @@ impl<K: Ranked> BlockIndex<K> {
 
     /// Takes a key out, which takes no memory; false where it wasn't there, and then nothing has changed. At most two
     /// neighbouring blocks change. It takes at most as many steps as the number of keys has binary digits, and 8 more.
-    pub fn remove<L: Ledger>(&mut self, key: K, steps: &mut Steps<L>) -> bool
+    pub fn remove<C: StepCounter>(&mut self, key: K, steps: &mut C) -> bool
         ensures answer { result ≡ has K.cmp key (keys_of self.old) }
         ensures keys { keys_of self.new ≡ remove_key (eq_by_cmp K.cmp key) (keys_of self.old) }
         ensures same { OnFalse result (self.new ≡ self.old) }
         ensures blocks { ChangesTwo self.old self.new }
-        ensures cost { WithinSteps (length (keys_of self.old)) 8 steps.old steps.new }
+        ensures cost { WithinSteps (length (keys_of self.old)) 8 (C.total steps.old) (C.total steps.new) }
     {
         let position = locate(&self.groups, &key, steps);
         if !position.found {
@@ -129,14 +128,14 @@ impl<K: Ranked> BlockIndex<K> {
 
     /// The keys from `from` to `to` in rising order, both ends included, in memory of their own. Whatever the answer, it takes at
     /// most as many steps as the number of keys has binary digits, 9 more, and one for each key of that range.
-    pub fn range<L: Ledger>(
+    pub fn range<C: StepCounter>(
         &self,
         from: K,
         to: K,
-        steps: &mut Steps<L>,
+        steps: &mut C,
     ) -> Result<List<K>, OutOfMemory>
         ensures keys { IfOk result (λ keys. keys ≡ keys_between K.cmp from to (keys_of self.now)) }
-        ensures cost { WithinSteps (length (keys_of self.now)) (9 + length (keys_between K.cmp from to (keys_of self.now))) steps.old steps.new }
+        ensures cost { WithinSteps (length (keys_of self.now)) (9 + length (keys_between K.cmp from to (keys_of self.now))) (C.total steps.old) (C.total steps.new) }
     {
         let groups = self.groups.as_slice();
         let position = locate(groups, &from, steps);
@@ -150,10 +149,10 @@ impl<K: Ranked> BlockIndex<K> {
 
     /// How many keys there are from `from` to `to`, both ends included, which takes no memory: their two positions are found. It
     /// takes at most twice as many steps as the number of keys has binary digits, and 16 more.
-    pub fn range_len<L: Ledger>(&self, from: K, to: K, steps: &mut Steps<L>) -> usize
+    pub fn range_len<C: StepCounter>(&self, from: K, to: K, steps: &mut C) -> usize
         ensures len { result ≡ length (keys_between K.cmp from to (keys_of self.now)) }
-        ensures forward { steps.old ≤ steps.new }
-        ensures cost { (d : ℕ) → length (keys_of self.now) < 2 ^ d → steps.new ≤ steps.old + 2 * (d + 8) }
+        ensures forward { C.total steps.old ≤ C.total steps.new }
+        ensures cost { (d : ℕ) → length (keys_of self.now) < 2 ^ d → C.total steps.new ≤ C.total steps.old + 2 * (d + 8) }
     {
         // The number of all keys fits.
         let _keys = self.count;

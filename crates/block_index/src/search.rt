@@ -9,9 +9,8 @@ ghost use Rattle.block_index.specs.Search.{EndsAt, EndsAtBlock, IsAfter, IsAfter
 
 use crate::block::Block;
 use crate::group::Group;
-use comparison_steps::{Ranked, Steps};
+use comparison_steps::{Ranked, StepCounter};
 use std::cmp::Ordering;
-use std::sync::ledger::Ledger;
 
 /// A group, a block in it and an index in that: the key's own if it is found, and the one at which it would be put in otherwise.
 #[derive(Clone, Copy)]
@@ -47,16 +46,16 @@ pub fn behind(position: Position) -> Position
 
 // Finds a key among the keys from an index on, as std's `binary_search` answers. The key before that index, if
 // any, is below it.
-fn search<K: Ranked, L: Ledger>(
+fn search<K: Ranked, C: StepCounter>(
     keys: &[K],
     start: usize,
     key: &K,
-    steps: &mut Steps<L>,
+    steps: &mut C,
 ) -> Result<usize, usize>
     requires within { start ≤ length keys.now }
     requires above { IsAfter K.cmp key.now keys.now start }
     ensures ends { EndsAt K.cmp key.now keys.now start result }
-    ensures cost { WithinSteps (length keys.now - start) 0 steps.old steps.new }
+    ensures cost { WithinSteps (length keys.now - start) 0 (C.total steps.old) (C.total steps.new) }
 {
     let mut low = start;
     let mut high = keys.len();
@@ -72,17 +71,17 @@ fn search<K: Ranked, L: Ledger>(
 }
 
 // Finds a key among the first keys of the blocks from an index on. The first key of the block before that index, if any, is below it.
-fn search_blocks<K: Ranked, L: Ledger>(
+fn search_blocks<K: Ranked, C: StepCounter>(
     blocks: &[Block<K>],
     start: usize,
     key: &K,
-    steps: &mut Steps<L>,
+    steps: &mut C,
 ) -> Result<usize, usize>
     requires filled { AreFilled blocks.now }
     requires within { start ≤ length blocks.now }
     requires above { IsAfterBlock K.cmp key.now blocks.now start }
     ensures ends { EndsAtBlock K.cmp key.now blocks.now start result }
-    ensures cost { WithinSteps (length blocks.now - start) 0 steps.old steps.new }
+    ensures cost { WithinSteps (length blocks.now - start) 0 (C.total steps.old) (C.total steps.new) }
 {
     let mut low = start;
     let mut high = blocks.len();
@@ -98,15 +97,15 @@ fn search_blocks<K: Ranked, L: Ledger>(
 }
 
 // Finds a key among the groups' first keys.
-fn search_groups<K: Ranked, L: Ledger>(
+fn search_groups<K: Ranked, C: StepCounter>(
     groups: &[Group<K>],
     key: &K,
-    steps: &mut Steps<L>,
+    steps: &mut C,
 ) -> Result<usize, usize>
     requires some { AreFilled groups.now }
     requires filled { AreFilled (keys_of groups.now) }
     ensures ends { EndsAtBlock K.cmp key.now (map keys_of groups.now) 0 result }
-    ensures cost { WithinSteps (length groups.now) 0 steps.old steps.new }
+    ensures cost { WithinSteps (length groups.now) 0 (C.total steps.old) (C.total steps.new) }
 {
     let mut low = 0;
     let mut high = groups.len();
@@ -122,17 +121,17 @@ fn search_groups<K: Ranked, L: Ledger>(
 }
 
 // The position of a key in a group whose first key is below it.
-fn locate_in<K: Ranked, L: Ledger>(
+fn locate_in<K: Ranked, C: StepCounter>(
     blocks: &[Block<K>],
     key: &K,
-    steps: &mut Steps<L>,
+    steps: &mut C,
 ) -> GroupPosition
     requires some { 0 < length blocks.now }
     requires filled { AreFilled blocks.now }
     requires rising { IsRising K.cmp (keys_of blocks.now) }
     requires above { IsAfterBlock K.cmp key.now blocks.now 1 }
     ensures stands { Stands K.cmp key.now blocks.now result.block result.at result.found }
-    ensures cost { WithinSteps (length blocks.now - 1) 7 steps.old steps.new }
+    ensures cost { WithinSteps (length blocks.now - 1) 7 (C.total steps.old) (C.total steps.new) }
 {
     let next = match search_blocks(blocks, 1, key, steps) {
         Ok(block) => {
@@ -160,13 +159,13 @@ fn locate_in<K: Ranked, L: Ledger>(
 }
 
 /// The position of a key.
-pub fn locate<K: Ranked, L: Ledger>(groups: &[Group<K>], key: &K, steps: &mut Steps<L>) -> Position
+pub fn locate<K: Ranked, C: StepCounter>(groups: &[Group<K>], key: &K, steps: &mut C) -> Position
     requires groups { AreGroups groups.now }
     requires filled { AreFilled (keys_of groups.now) }
     requires rising { IsRising K.cmp (keys_of (keys_of groups.now)) }
     ensures stands { Stands K.cmp key.now (keys_of groups.now) (index_of groups.now result.group result.block) result.at result.found }
     ensures inside { 0 < length groups.now → IsInside groups.now result.group result.block }
-    ensures cost { WithinSteps (length (keys_of (keys_of groups.now))) 8 steps.old steps.new }
+    ensures cost { WithinSteps (length (keys_of (keys_of groups.now))) 8 (C.total steps.old) (C.total steps.new) }
 {
     let next = match search_groups(groups, key, steps) {
         Ok(group) => {

@@ -7,24 +7,23 @@ use crate::block::Block;
 use crate::group::Group;
 use crate::search::Position;
 use base::OutOfMemory;
-use comparison_steps::{Ranked, Steps};
-use std::sync::ledger::Ledger;
+use comparison_steps::{Ranked, StepCounter};
 
 /// Copies the keys from a position on until the first above `to`; whether there was none. Each key that is looked at is one step.
-pub fn take_from<K: Ranked, L: Ledger>(
+pub fn take_from<K: Ranked, C: StepCounter>(
     groups: &[Group<K>],
     position: Position,
     to: &K,
     taken: &mut Vec<K>,
-    steps: &mut Steps<L>,
+    steps: &mut C,
 ) -> Result<bool, OutOfMemory>
     requires inside { IsInside groups.now position.group position.block }
     requires within { position.at ≤ length (slice_index_or (keys_of groups.now) (index_of groups.now position.group position.block) []) }
     ensures takes { IfOk result
         (λ more. Takes K.cmp to.now (keys_from (keys_of groups.now) (index_of groups.now position.group position.block) position.at) taken.old.items taken.new.items more) }
-    ensures cost { IfOk result (λ more. steps.new + length taken.old.items ≡ steps.old + length taken.new.items + cond more 0 1) }
-    ensures refused { OnErr result (steps.new ≤ steps.old + length (up_to K.cmp to.now (keys_from (keys_of groups.now) (index_of groups.now position.group position.block) position.at))) }
-    ensures forward { steps.old ≤ steps.new }
+    ensures cost { IfOk result (λ more. C.total steps.new + length taken.old.items ≤ C.total steps.old + length taken.new.items + cond more 0 1) }
+    ensures refused { OnErr result (C.total steps.new ≤ C.total steps.old + length (up_to K.cmp to.now (keys_from (keys_of groups.now) (index_of groups.now position.group position.block) position.at))) }
+    ensures forward { C.total steps.old ≤ C.total steps.new }
 {
     let blocks = groups[position.group].blocks();
     if !take_within(blocks, position, to, taken, steps)? {
@@ -35,19 +34,19 @@ pub fn take_from<K: Ranked, L: Ledger>(
 }
 
 // Copies the keys from a position in a group's blocks on until the first above `to`; whether there was none.
-fn take_within<K: Ranked, L: Ledger>(
+fn take_within<K: Ranked, C: StepCounter>(
     blocks: &[Block<K>],
     position: Position,
     to: &K,
     taken: &mut Vec<K>,
-    steps: &mut Steps<L>,
+    steps: &mut C,
 ) -> Result<bool, OutOfMemory>
     requires inside { position.block < length blocks.now }
     requires within { position.at ≤ length (slice_index_or blocks.now position.block []) }
     ensures takes { IfOk result (λ more. Takes K.cmp to.now (keys_from blocks.now position.block position.at) taken.old.items taken.new.items more) }
-    ensures cost { IfOk result (λ more. steps.new + length taken.old.items ≡ steps.old + length taken.new.items + cond more 0 1) }
-    ensures refused { OnErr result (steps.new ≤ steps.old + length (up_to K.cmp to.now (keys_from blocks.now position.block position.at))) }
-    ensures forward { steps.old ≤ steps.new }
+    ensures cost { IfOk result (λ more. C.total steps.new + length taken.old.items ≤ C.total steps.old + length taken.new.items + cond more 0 1) }
+    ensures refused { OnErr result (C.total steps.new ≤ C.total steps.old + length (up_to K.cmp to.now (keys_from blocks.now position.block position.at))) }
+    ensures forward { C.total steps.old ≤ C.total steps.new }
 {
     let first = blocks[position.block].keys();
     if !take_keys(&first[position.at..], to, taken, steps)? {
@@ -58,16 +57,16 @@ fn take_within<K: Ranked, L: Ledger>(
 }
 
 // Copies keys until the first above `to`; whether there was none.
-fn take_keys<K: Ranked, L: Ledger>(
+fn take_keys<K: Ranked, C: StepCounter>(
     keys: &[K],
     to: &K,
     taken: &mut Vec<K>,
-    steps: &mut Steps<L>,
+    steps: &mut C,
 ) -> Result<bool, OutOfMemory>
     ensures takes { IfOk result (λ more. Takes K.cmp to.now keys.now taken.old.items taken.new.items more) }
-    ensures cost { IfOk result (λ more. steps.new + length taken.old.items ≡ steps.old + length taken.new.items + cond more 0 1) }
-    ensures refused { OnErr result (steps.new ≤ steps.old + length (up_to K.cmp to.now keys.now)) }
-    ensures forward { steps.old ≤ steps.new }
+    ensures cost { IfOk result (λ more. C.total steps.new + length taken.old.items ≤ C.total steps.old + length taken.new.items + cond more 0 1) }
+    ensures refused { OnErr result (C.total steps.new ≤ C.total steps.old + length (up_to K.cmp to.now keys.now)) }
+    ensures forward { C.total steps.old ≤ C.total steps.new }
 {
     for key in keys {
         if key.rank(to, steps).is_gt() {
@@ -79,16 +78,16 @@ fn take_keys<K: Ranked, L: Ledger>(
 }
 
 // Copies the blocks' keys until the first above `to`; whether there was none.
-fn take_blocks<K: Ranked, L: Ledger>(
+fn take_blocks<K: Ranked, C: StepCounter>(
     blocks: &[Block<K>],
     to: &K,
     taken: &mut Vec<K>,
-    steps: &mut Steps<L>,
+    steps: &mut C,
 ) -> Result<bool, OutOfMemory>
     ensures takes { IfOk result (λ more. Takes K.cmp to.now (keys_of blocks.now) taken.old.items taken.new.items more) }
-    ensures cost { IfOk result (λ more. steps.new + length taken.old.items ≡ steps.old + length taken.new.items + cond more 0 1) }
-    ensures refused { OnErr result (steps.new ≤ steps.old + length (up_to K.cmp to.now (keys_of blocks.now))) }
-    ensures forward { steps.old ≤ steps.new }
+    ensures cost { IfOk result (λ more. C.total steps.new + length taken.old.items ≤ C.total steps.old + length taken.new.items + cond more 0 1) }
+    ensures refused { OnErr result (C.total steps.new ≤ C.total steps.old + length (up_to K.cmp to.now (keys_of blocks.now))) }
+    ensures forward { C.total steps.old ≤ C.total steps.new }
 {
     for block in blocks {
         if !take_keys(block.keys(), to, taken, steps)? {
@@ -99,16 +98,16 @@ fn take_blocks<K: Ranked, L: Ledger>(
 }
 
 // Copies the groups' keys until the first above `to`; whether there was none.
-fn take_groups<K: Ranked, L: Ledger>(
+fn take_groups<K: Ranked, C: StepCounter>(
     groups: &[Group<K>],
     to: &K,
     taken: &mut Vec<K>,
-    steps: &mut Steps<L>,
+    steps: &mut C,
 ) -> Result<bool, OutOfMemory>
     ensures takes { IfOk result (λ more. Takes K.cmp to.now (keys_of (map keys_of groups.now)) taken.old.items taken.new.items more) }
-    ensures cost { IfOk result (λ more. steps.new + length taken.old.items ≡ steps.old + length taken.new.items + cond more 0 1) }
-    ensures refused { OnErr result (steps.new ≤ steps.old + length (up_to K.cmp to.now (keys_of (map keys_of groups.now)))) }
-    ensures forward { steps.old ≤ steps.new }
+    ensures cost { IfOk result (λ more. C.total steps.new + length taken.old.items ≤ C.total steps.old + length taken.new.items + cond more 0 1) }
+    ensures refused { OnErr result (C.total steps.new ≤ C.total steps.old + length (up_to K.cmp to.now (keys_of (map keys_of groups.now)))) }
+    ensures forward { C.total steps.old ≤ C.total steps.new }
 {
     for group in groups {
         if !take_blocks(group.blocks(), to, taken, steps)? {

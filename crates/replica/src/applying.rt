@@ -13,7 +13,7 @@ use rdf_term::{List, OutOfMemory, Triple, TripleSet};
 use std::alloc::Global;
 use std::collections::BTreeMap;
 use triple_patch::Patch;
-use triple_store::{Store, StoreFault};
+use triple_store::{Store, StoreFault, Uncounted};
 
 /// Applies the record of this number, where one waits, and says whether one did. After a fault the store has the triples that it had.
 pub fn apply_waiting(
@@ -55,7 +55,7 @@ fn apply(alloc: Global, store: &mut Store, item: &PatchRecord) -> Result<(), Sto
     let Ok(patch) = effect(alloc, store, item) else {
         return Err(StoreFault::OutOfMemory);
     };
-    store.apply(&patch)
+    store.apply(&patch, &mut Uncounted)
 }
 
 // The patch that does what the record says: of the triples that come those that aren't stored, and of those that go those that are.
@@ -95,5 +95,5 @@ fn is_stored(store: &Store, triple: &Triple) -> bool
     requires { AreOwnedOnce (counts_in store.now) }
     ensures { result ≡ has triple_cmp triple.now (map.keys (counts_in store.now)) }
 {
-    store.owners(triple) > 0
+    store.owners(triple, &mut Uncounted) > 0
 }

@@ -11,11 +11,10 @@ ghost use Rattle.slot_index.specs.Patterns.{slots_agree, leads};
 use crate::pattern::SlotPattern;
 use base::{List, OutOfMemory};
 use block_index::BlockIndex;
-use comparison_steps::Steps;
+use comparison_steps::StepCounter;
 use slot_keys::Key;
 use std::alloc::Global;
 use std::marker::Model;
-use std::sync::ledger::Ledger;
 
 /// A set of triples in three indexes. Contracts see its triples in rising order.
 #[derive(Drop)]
@@ -59,23 +58,23 @@ impl Orders {
     }
 
     /// Whether the triple is there.
-    pub fn find<L: Ledger>(&self, key: Key, steps: &mut Steps<L>) -> bool
+    pub fn find<C: StepCounter>(&self, key: Key, steps: &mut C) -> bool
         ensures answer { result ≡ has key_cmp key self.now }
         ensures rising { IsRising key_cmp self.now }
-        ensures cost { WithinSteps (length self.now) 8 steps.old steps.new }
+        ensures cost { WithinSteps (length self.now) 8 (C.total steps.old) (C.total steps.new) }
     {
         self.subjects.find(key, steps)
     }
 
     /// Puts a triple in; false where it was there. After `OutOfMemory` the set is as it was.
-    pub fn insert<L: Ledger>(&mut self, key: Key, steps: &mut Steps<L>) -> Result<bool, OutOfMemory>
+    pub fn insert<C: StepCounter>(&mut self, key: Key, steps: &mut C) -> Result<bool, OutOfMemory>
         ensures answer { IfOk result (λ added. added ≡ not (has key_cmp key self.old)) }
         ensures keys { OnOk result (self.new ≡ insert_key key_cmp self.old key) }
         ensures same { IfOk result (λ added. OnFalse added (self.new ≡ self.old)) }
         ensures err { OnErr result (self.new ≡ self.old) }
         ensures rising { IsRising key_cmp self.old }
-        ensures forward { steps.old ≤ steps.new }
-        ensures cost { (d : ℕ) → length self.old + 1 < 2 ^ d → steps.new ≤ steps.old + 5 * (d + 8) }
+        ensures forward { C.total steps.old ≤ C.total steps.new }
+        ensures cost { (d : ℕ) → length self.old + 1 < 2 ^ d → C.total steps.new ≤ C.total steps.old + 5 * (d + 8) }
     {
         if !self.subjects.insert(key, steps)? {
             return Ok(false);
@@ -95,12 +94,12 @@ impl Orders {
     }
 
     /// Takes a triple out, which takes no memory; false where it wasn't there.
-    pub fn remove<L: Ledger>(&mut self, key: Key, steps: &mut Steps<L>) -> bool
+    pub fn remove<C: StepCounter>(&mut self, key: Key, steps: &mut C) -> bool
         ensures answer { result ≡ has key_cmp key self.old }
         ensures keys { self.new ≡ remove_key (eq_by_cmp key_cmp key) self.old }
         ensures rising { IsRising key_cmp self.old }
-        ensures forward { steps.old ≤ steps.new }
-        ensures cost { (d : ℕ) → length self.old < 2 ^ d → steps.new ≤ steps.old + 3 * (d + 8) }
+        ensures forward { C.total steps.old ≤ C.total steps.new }
+        ensures cost { (d : ℕ) → length self.old < 2 ^ d → C.total steps.new ≤ C.total steps.old + 3 * (d + 8) }
     {
         let second = key.turned();
         let third = second.turned();
@@ -112,14 +111,14 @@ impl Orders {
 
     /// The triples that agree with the pattern, each once, in memory of their own: one range of one index. Its bound on steps holds
     /// whatever the answer.
-    pub fn range<L: Ledger>(
+    pub fn range<C: StepCounter>(
         &self,
         pattern: SlotPattern,
-        steps: &mut Steps<L>,
+        steps: &mut C,
     ) -> Result<List<Key>, OutOfMemory>
         ensures found { IfOk result (λ found. (p : TheKey → Bool) → count_by p found ≡ count_by (λ key. slots_agree pattern key && p key) self.now) }
         ensures rising { IsRising key_cmp self.now }
-        ensures cost { WithinSteps (length self.now) (9 + count_by (slots_agree pattern) self.now) steps.old steps.new }
+        ensures cost { WithinSteps (length self.now) (9 + count_by (slots_agree pattern) self.now) (C.total steps.old) (C.total steps.new) }
     {
         if pattern.leads() {
             return leading(&self.subjects, pattern, steps);
@@ -135,11 +134,11 @@ impl Orders {
     }
 
     /// How many triples agree with the pattern, which takes no memory: the length of one range of one index.
-    pub fn range_len<L: Ledger>(&self, pattern: SlotPattern, steps: &mut Steps<L>) -> usize
+    pub fn range_len<C: StepCounter>(&self, pattern: SlotPattern, steps: &mut C) -> usize
         ensures len { result ≡ count_by (slots_agree pattern) self.now }
         ensures rising { IsRising key_cmp self.now }
-        ensures forward { steps.old ≤ steps.new }
-        ensures cost { (d : ℕ) → length self.now < 2 ^ d → steps.new ≤ steps.old + 2 * (d + 8) }
+        ensures forward { C.total steps.old ≤ C.total steps.new }
+        ensures cost { (d : ℕ) → length self.now < 2 ^ d → C.total steps.new ≤ C.total steps.old + 2 * (d + 8) }
     {
         if pattern.leads() {
             return leading_len(&self.subjects, pattern, steps);
@@ -154,30 +153,30 @@ impl Orders {
 }
 
 // The triples of an index that agree with a pattern whose wanted places come before its free ones.
-fn leading<L: Ledger>(
+fn leading<C: StepCounter>(
     index: &BlockIndex<Key>,
     pattern: SlotPattern,
-    steps: &mut Steps<L>,
+    steps: &mut C,
 ) -> Result<List<Key>, OutOfMemory>
     requires leads { leads pattern ≡ true }
     requires fit { All FitsSlots (keys_of index.now) }
     ensures keys { IfOk result (λ keys. keys ≡ filter (slots_agree pattern) (keys_of index.now)) }
-    ensures cost { WithinSteps (length (keys_of index.now)) (9 + count_by (slots_agree pattern) (keys_of index.now)) steps.old steps.new }
+    ensures cost { WithinSteps (length (keys_of index.now)) (9 + count_by (slots_agree pattern) (keys_of index.now)) (C.total steps.old) (C.total steps.new) }
 {
     index.range(pattern.low(), pattern.high(), steps)
 }
 
 // How many triples of an index agree with a pattern whose wanted places come before its free ones.
-fn leading_len<L: Ledger>(
+fn leading_len<C: StepCounter>(
     index: &BlockIndex<Key>,
     pattern: SlotPattern,
-    steps: &mut Steps<L>,
+    steps: &mut C,
 ) -> usize
     requires leads { leads pattern ≡ true }
     requires fit { All FitsSlots (keys_of index.now) }
     ensures len { result ≡ count_by (slots_agree pattern) (keys_of index.now) }
-    ensures forward { steps.old ≤ steps.new }
-    ensures cost { (d : ℕ) → length (keys_of index.now) < 2 ^ d → steps.new ≤ steps.old + 2 * (d + 8) }
+    ensures forward { C.total steps.old ≤ C.total steps.new }
+    ensures cost { (d : ℕ) → length (keys_of index.now) < 2 ^ d → C.total steps.new ≤ C.total steps.old + 2 * (d + 8) }
 {
     index.range_len(pattern.low(), pattern.high(), steps)
 }

@@ -1,10 +1,11 @@
 // Keys that stay, in one list with those that were met.
 
-ghost use Rattle.std.specs.Prelude.{◌≡◌, ◌++◌, ◌≤◌, true, false, length, nat_lt, IfOk};
+ghost use Rattle.std.specs.Prelude.{◌≡◌, ◌++◌, ◌<◌, ◌≤◌, true, false, length, nat_lt, IfOk};
 ghost use Rattle.std.specs.Prelude.{map as mapped};
 ghost use Rattle.rising.specs.Rising.{IsRising, difference, has, sorted};
 ghost use Rattle.slot_keys.specs.{declared.key.Key.Key as TheKey, Keys.key_cmp, Marks.marked, KeyCounts.count_beside, KeyCounts.counted_keys};
 
+use crate::counting::no_counts;
 use crate::finding::index_from;
 use crate::key::Key;
 use crate::keys::{KeySlices, Keys, NOWHERE, Parted, index_in, places_of, put_in_order, put_last};
@@ -28,8 +29,32 @@ pub struct KeysBeside {
     pub gone: Vec<Key>,
 }
 
-/// The keys that were met and those that stay, in order, each once. What stays needs no look-up, no search and no sorting.
+/// The keys that were met and those that stay, in order, each once. What stays needs no look-up, no search and no sorting. Without counts no
+/// key stays.
 pub fn keys_beside(alloc: Global, left: Left<'_>, met: &Met) -> Result<KeysBeside, OutOfMemory>
+    requires rising { IsRising key_cmp left.keys.rising.now }
+    requires as_many { 0 < length left.counts.now → length left.counts.now ≡ length left.keys.rising.now }
+    ensures keys { IfOk result (λ done. done.keys.rising.items ≡ sorted key_cmp (met.now.keys.items ++ counted_keys left.entry.keys.rising.now left.entry.counts.now)) }
+    ensures counts { IfOk result (λ done. done.counts.items ≡ mapped (count_beside left.entry.keys.rising.now left.entry.counts.now) done.keys.rising.items) }
+    ensures rising { IfOk result (λ done. IsRising key_cmp done.gone.items) }
+    ensures had { IfOk result (λ done. (key : TheKey) → has key_cmp key done.gone.items ≡ true → has key_cmp key left.entry.keys.rising.now ≡ true) }
+    ensures few { IfOk result (λ done. length done.gone.items ≤ length left.entry.keys.rising.now) }
+    ensures gone { IfOk result (λ done. difference key_cmp done.gone.items done.keys.rising.items ≡ difference key_cmp left.entry.keys.rising.now done.keys.rising.items) }
+{
+    if left.counts.len() == left.keys.rising.len() {
+        return counted_beside(alloc, left, met);
+    }
+    let none = no_counts(alloc, left.keys.rising.len())?;
+    let none_left = Left {
+        keys: left.keys,
+        counts: none.as_slice(),
+    };
+    let done = counted_beside(alloc, none_left, met)?;
+    Ok(done)
+}
+
+// The same where each key has a count.
+fn counted_beside(alloc: Global, left: Left<'_>, met: &Met) -> Result<KeysBeside, OutOfMemory>
     requires rising { IsRising key_cmp left.keys.rising.now }
     requires as_many { length left.counts.now ≡ length left.keys.rising.now }
     ensures keys { IfOk result (λ done. done.keys.rising.items ≡ sorted key_cmp (met.now.keys.items ++ counted_keys left.entry.keys.rising.now left.entry.counts.now)) }

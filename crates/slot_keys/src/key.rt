@@ -5,9 +5,8 @@ ghost use Rattle.std.specs.Cmp.{partial_equiv_from_equiv, eq_by_cmp_equiv, parti
 ghost use Rattle.std.specs.Ordering.{as_partial_cmp, eq_by_cmp, nat_cmp, ordering_then};
 ghost use Rattle.slot_keys.specs.Keys.{FitsSlots, key_cmp, key_cmp-total, key_cmp-IsAntisymmetric, turned};
 
-use comparison_steps::{Ranked, Steps};
+use comparison_steps::{Ranked, StepCounter};
 use std::cmp::Ordering;
-use std::sync::ledger::Ledger;
 
 /// A triple of slots, ordered by the first, then the second, then the third. The triple itself has subject,
 /// predicate and object; turned once it has predicate, object and subject, and turned twice object, subject
@@ -94,7 +93,7 @@ impl Ranked for Key {
 
     ghost same = { key_cmp-IsAntisymmetric };
 
-    fn rank<L: Ledger>(&self, other: &Key, steps: &mut Steps<L>) -> Ordering {
+    fn rank<C: StepCounter>(&self, other: &Key, steps: &mut C) -> Ordering {
         steps.tick();
         self.cmp(other)
     }

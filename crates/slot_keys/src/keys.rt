@@ -30,6 +30,16 @@ pub struct KeySlices<'a> {
 }
 
 impl Keys {
+    /// No keys, which take no memory.
+    pub fn none(alloc: Global) -> Keys
+        ensures { result.rising.items ≡ [] }
+    {
+        Keys {
+            rising: Vec::new(alloc),
+            walk: Vec::new(alloc),
+        }
+    }
+
     /// The keys, borrowed.
     pub fn slices(&self) -> KeySlices<'_>
         ensures { result.rising.now ≡ self.now.rising.items }

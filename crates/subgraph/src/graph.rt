@@ -17,7 +17,7 @@ use rdf_term::Pattern;
 use std::alloc::Global;
 use std::hash::RandomState;
 use std::marker::Model;
-use triple_store::{KeySlices, Keys, Rows, Store, StoreFault};
+use triple_store::{Exchange, KeySlices, Keys, Left, Rows, Store, StoreFault, Telling, Uncounted};
 use triple_texts::TripleTexts;
 
 /// The sets of triples of the entities of a graph: a store of the triples with the number of the entities that have each, and for each entity
@@ -75,8 +75,23 @@ impl Graph {
         if self.owned.reserve(1).is_err() {
             return Err(StoreFault::OutOfMemory);
         }
-        match self.store.exchange(keys_of(&self.owned, id), new) {
-            Ok(keys) => {
+        let left = Left {
+            keys: keys_of(&self.owned, id),
+            counts: &[],
+        };
+        match self
+            .store
+            .exchange(left, new, Telling::Nothing, &mut Uncounted)
+        {
+            Ok(
+                Exchange {
+                    keys,
+                    times,
+                    change,
+                },
+            ) => {
+                drop(times);
+                drop(change);
                 put(&mut self.owned, id, keys);
                 Ok(())
             }
@@ -89,7 +104,12 @@ impl Graph {
         ensures { self.new ≡ record self.old { sets = map.remove self.old.sets id } }
     {
         if let Some(keys) = take_out(&mut self.owned, id) {
-            self.store.release(keys.slices());
+            let Ok(_) = self
+                .store
+                .release(keys.slices(), Telling::Nothing, &mut Uncounted)
+            else {
+                unreachable!()
+            };
         }
     }
 
@@ -104,7 +124,7 @@ impl Graph {
     pub fn matching(&self, pattern: &Pattern) -> Result<Rows<'_>, OutOfMemory>
         ensures { IfOk result (λ found. found ≡ rows (union_of self.now.sets) pattern.now) }
     {
-        self.store.matching(pattern)
+        self.store.matching(pattern, &mut Uncounted)
     }
 }
 

@@ -109,11 +109,11 @@ counted st r new u a x before after h k costs =
     subst (λ n. Costs n (map.len (counts_in new u)) a x before after) (sym (len_image st r h)) (subst (λ m. Costs (map.len st.index) m a x before after) (sym (len_image new u k)) costs)
 
 -- what a patch makes come, by its texts, and then what it makes go
-pub patched : (n m k texts adds removes before mid after : ℕ) → texts ≡ adds → Costs n m texts (texts + 0) before mid → Costs m k 0 removes mid after → Costs n k adds (adds + removes) before after
-patched n m k texts adds removes before mid after e f g = at_most n k (texts + 0) adds (texts + 0 + removes) (adds + removes) before after (omega arith) (omega arith) (both n m k texts 0 (texts + 0) removes before mid after f g)
+pub patched : (n m k texts adds undone removes before mid after : ℕ) → texts ≡ adds → undone ≤ texts → Costs n m texts undone before mid → Costs m k 0 removes mid after → Costs n k adds (adds + removes) before after
+patched n m k texts adds undone removes before mid after e few f g = at_most n k (texts + 0) adds (undone + removes) (adds + removes) before after (omega arith) (omega arith) (both n m k texts 0 undone removes before mid after f g)
 
-pub not_patched : (n m texts adds removes before after : ℕ) → texts ≡ adds → Costs n m texts (texts + 0) before after → Costs n m adds (adds + removes) before after
-not_patched n m texts adds removes before after e f = at_most n m texts adds (texts + 0) (adds + removes) before after (omega arith) (omega arith) f
+pub not_patched : (n m texts adds undone removes before after : ℕ) → texts ≡ adds → undone ≤ texts → Costs n m texts undone before after → Costs n m adds (adds + removes) before after
+not_patched n m texts adds undone removes before after e few f = at_most n m texts adds undone (adds + removes) before after (omega arith) (omega arith) f
 
 -- a look-up is allowed where one goes
 looked_up : (n before after : ℕ) → WithinSteps n 8 before after → Costs n n 0 1 before after

@@ -9,14 +9,14 @@ use Rattle.rdf_term.specs.declared.triple.Triple.{Triple}
 use Rattle.text_region.specs.Region.{Texts}
 use Rattle.term_pool.specs.Pool.{one_if}
 use Rattle.slot_keys.specs.declared.key.Key.{Key}
-use Rattle.slot_keys.specs.KeyCounts.{AddKeys, key_times}
+use Rattle.slot_keys.specs.KeyCounts.{key_times}
 use Rattle.slot_keys.specs.Keys.{key_cmp, key_cmp-total, same_key}
 use Rattle.slot_keys.proofs.Lists.{has_at}
 use Rattle.triple_store.specs.declared.catalog.Catalog.{Catalog}
 use Rattle.triple_store.specs.Moves.{triples_at}
 use Rattle.triple_store.specs.Slots.{triple_at}
 use Rattle.triple_store.specs.Stored.{IsStored, is_key}
-use Rattle.triple_store.specs.Times.{AddTimes, times, triple_of_key}
+use Rattle.triple_store.specs.Times.{times, triple_of_key}
 use Rattle.triple_store.proofs.Becoming.{times-cons}
 use Rattle.triple_store.proofs.Live.{same_tests}
 use Rattle.triple_store.proofs.Standing.{stored_key}
@@ -42,10 +42,3 @@ module _ (st : Catalog) (r : Texts) (stored : IsStored st r) where
     key_often index other low =
         let key = get_or keys index other in
         ap (times (triple_at st.pool r key)) (sym along) ∙ as_often key (all key (has_at key_cmp-total keys index other low)) met all_met
-
-    -- so counts of keys are counts of their triples
-    pub keys_times : (old new : List ℕ) → AddKeys keys old new met → AddTimes st r keys old new come
-    keys_times old new h = record {
-      as_many = h.as_many;
-      counted = λ index other low. omega (arith, h.counted index other low, key_often index other low);
-    }

@@ -7,7 +7,7 @@ use Rattle.slot_keys.specs.declared.key.Key.{Key}
 use Rattle.slot_keys.specs.Keys.{key_cmp, key_cmp-total}
 use Rattle.slot_keys.proofs.Lists.{has_at}
 use Rattle.triple_store.specs.Counts.{count_of}
-use Rattle.triple_store.specs.PartUpdates.{AreTimesIfKnown, AreTimesOf, times}
+use Rattle.triple_store.specs.Updates.{AreTimesIfKnown, AreTimesOf, times}
 use Rattle.triple_store.specs.Slots.{triple_at}
 use Rattle.triple_store.specs.StoreState.{AreKeysOf, HasKey, KeepsKeys, StoreState, counts_in}
 use Rattle.triple_store.proofs.Live.{tells}

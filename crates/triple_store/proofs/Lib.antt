@@ -21,6 +21,7 @@ pub mod Stocked
 pub mod Storing
 pub mod Taking
 pub mod Unchanged
+pub mod Whole
 pub mod Parts
 pub mod Timed
 pub mod Becoming

@@ -22,9 +22,9 @@ use Rattle.triple_store.specs.Moves.{triples_at}
 use Rattle.triple_store.specs.Slots.{triple_at}
 use Rattle.triple_store.specs.Stored.{HasKey, IsStored, is_key}
 use Rattle.triple_store.specs.Telling.{if_told}
-use Rattle.triple_store.specs.Times.{AddTimes, AreTimesOf, Becomes, times}
+use Rattle.triple_store.specs.Times.{ComesTo, times}
 use Rattle.triple_store.proofs.Afterwards.{stays_among}
-use Rattle.triple_store.proofs.Becoming.{counted-has, left_of, none_times, some_times, times-cons, times_some}
+use Rattle.triple_store.proofs.Becoming.{at_least, counted-has, none_times, some_times, times-cons, times_some}
 use Rattle.triple_store.proofs.Costs.{at_most, told_fewer}
 use Rattle.triple_store.proofs.Live.{key_same}
 use Rattle.triple_store.proofs.Standing.{stored_key, triples_at-has}
@@ -107,33 +107,32 @@ module _ (st : Catalog) (r : Texts) (stored : IsStored st r) where
           omega (arith, times-cons t (triple_at st.pool r k) (triples_at st r keys), ap one_if e, nothing)
       at false e rest = omega (arith, times-cons t (triple_at st.pool r k) (triples_at st r keys), ap one_if e, rest)
 
-  module _ (keys : List Key) (counts left : List ℕ) (old new gone come : List Triple) (there : (key : Key) → has key_cmp key keys ≡ true → is_key st key ≡ true)
-      (its : AreTimesOf st r keys counts old) (less : AddTimes st r keys left counts gone) (h : Becomes old new gone come) where
+  module _ (keys : List Key) (left : List ℕ) (come before after : List Triple) (there : (key : Key) → has key_cmp key keys ≡ true → is_key st key ≡ true) (h : ComesTo st r keys left come before after) where
     abbrev some : List Key
     some = counted_keys keys left
 
-    few : (t : Triple) → times t (triples_at st r some) + times t gone ≤ times t old
+    few : (t : Triple) → times t (triples_at st r some) + times t come ≤ times t after
     few t = at (has triple_cmp t (triples_at st r some)) refl
       where
-        at : (b : Bool) → has triple_cmp t (triples_at st r some) ≡ b → times t (triples_at st r some) + times t gone ≤ times t old
+        at : (b : Bool) → has triple_cmp t (triples_at st r some) ≡ b → times t (triples_at st r some) + times t come ≤ times t after
         at true e =
             let one : (key : Key) × (has key_cmp key some ≡ true) × (triple_at st.pool r key ≡ t) = triples_at-has (triple_at st.pool r) some t e in
             let at = counted-has keys left one.0 one.1 in
             let same : triple_at st.pool r (get_or keys at.index one.0) ≡ t = ap (triple_at st.pool r) (at.is one.0) ∙ one.2 in
             omega (
               arith,
-              once some (IsRising-counted keys left its.keys_of.rising) (λ key is. there key (stays_among keys left key is)) t,
+              once some (IsRising-counted keys left h.keys_of.rising) (λ key is. there key (stays_among keys left key is)) t,
               at.some,
-              left_of st r keys counts left old new gone come its less h at.index one.0 at.low,
-              ap (λ v. times v gone) same,
-              ap (λ v. times v old) same,
+              h.counted at.index one.0 at.low,
+              ap (λ v. times v come) same,
+              ap (λ v. times v after) same,
             )
-        at false e = omega (arith, none_times t (triples_at st r some) e, h.within t)
+        at false e = omega (arith, none_times t (triples_at st r some) e, at_least st r keys left come before after h t)
 
-    pub stays_few : length some + length come ≤ length new
+    pub stays_few : length some + length come ≤ length after
     stays_few = omega (
       arith,
-      fewer_times (triples_at st r some ++ come) new (λ t. omega (arith, few t, h.balance t, sum_by-append (λ v. cond (eq_by_cmp triple_cmp t v) 1 0) (triples_at st r some) come)),
+      fewer_times (triples_at st r some ++ come) after (λ t. omega (arith, few t, sum_by-append (λ v. cond (eq_by_cmp triple_cmp t v) 1 0) (triples_at st r some) come)),
       length-append (triples_at st r some) come,
       length-map some (triple_at st.pool r),
     )
@@ -143,3 +142,8 @@ pub cost_of_all : (telling : Telling) (n m come stay had all before after : ℕ)
 cost_of_all telling n m come stay had all before after few h =
     at_most n m come all (if_told telling (come + (stay + had)) + (come + (stay + had))) (if_told telling (all + had) + (all + had)) before after (omega (arith, few))
     (omega (arith, few, told_fewer telling (come + (stay + had)) (all + had) (omega (arith, few)))) h
+
+-- nor does one for which nothing is left and nothing comes
+pub cost_for_none : (telling : Telling) (n m had all before after : ℕ) → Costs n m 0 (if_told telling had + had) before after → Costs n m all (if_told telling (all + had) + (all + had)) before after
+cost_for_none telling n m had all before after h =
+    at_most n m 0 all (if_told telling had + had) (if_told telling (all + had) + (all + had)) before after (omega arith) (omega (arith, told_fewer telling had (all + had) (omega arith))) h

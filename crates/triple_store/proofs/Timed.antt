@@ -59,28 +59,6 @@ module _ (st : Catalog) (r : Texts) (stored : IsStored st r) (keys : List Key) (
       ≡ times (triple_of_key st r keys index other) (take i triples) + cond (eq_by_cmp triple_cmp (triple_of_key st r keys index other) (triple_of texts)) 1 0
   more index other = ap (times (triple_of_key st r keys index other)) (row triples i texts low at).more ∙ times-push (triple_of_key st r keys index other) (triple_of texts) (take i triples)
 
-  -- one more of its key
-  pub times-added : (old now : List ℕ) (n : ℕ) → length old ≡ length keys → n ≡ get_or now place 0 + 1 → AddTimes st r keys old now (take i triples) → AddTimes st r keys old (set now place n) (take (i + 1) triples)
-  times-added old now n long is h =
-      record {
-        as_many = length-set now place n ∙ h.as_many;
-        counted = λ index other within. ⊎_elim
-            (λ same.
-            omega (
-              arith,
-              ap (λ k. get_or (set now place n) k 0) same,
-              get_or-set_same now place n 0 (omega (arith, h.as_many, long, there)),
-              is,
-              h.counted index other within,
-              ap (λ k. get_or now k 0) same,
-              more index other,
-              ap one_if (subst (λ (k : ℕ). eq_by_cmp triple_cmp (triple_of_key st r keys k other) (triple_of texts) ≡ true) (sym same) (here other)),
-            ))
-            (λ differ.
-            omega (arith, get_or-set_other now place index n 0 differ, h.counted index other within, more index other, ap one_if (elsewhere index other within differ)))
-            (cases_eq index place);
-      }
-
   -- one less of its key
   pub times-less : (old left : List ℕ) (n : ℕ) → length left ≡ length keys → n + 1 ≡ get_or left place 0 → AddTimes st r keys left old (take i triples) → AddTimes st r keys (set left place n) old (take (i + 1) triples)
   times-less old left n long is h =

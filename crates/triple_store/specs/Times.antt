@@ -1,6 +1,7 @@
 -- How many times each triple of an owner comes: several parts of what it has may give one triple.
-use Rattle.std.specs.Prelude.{◌≡◌, ◌+◌, ◌<◌, ◌≤◌, ℕ, List, length, get_or, count_by}
+use Rattle.std.specs.Prelude.{◌≡◌, ◌+◌, ◌<◌, ◌≤◌, false, ℕ, List, length, get_or, count_by}
 use Rattle.std.specs.Ordering.{eq_by_cmp}
+use Rattle.rising.specs.Rising.{has}
 use Rattle.rdf_term.specs.declared.triple.Triple.{Triple}
 use Rattle.rdf_term.specs.Order.{triple_cmp}
 use Rattle.text_region.specs.Region.{Texts}
@@ -32,3 +33,9 @@ pub record AddTimes (store : Catalog) (texts : Texts) (keys : List Key) (old new
 pub record Becomes (old new gone come : List Triple) : Type 0 where
   pub balance : (t : Triple) → times t new + times t gone ≡ times t old + times t come
   pub within : (t : Triple) → times t gone ≤ times t old
+
+-- an owner had some triples under these keys, and so many are left of each; with those that come it has the triples that it has now
+pub record ComesTo (store : Catalog) (texts : Texts) (keys : List Key) (left : List ℕ) (come before after : List Triple) : Type 0 where
+  pub keys_of : AreKeysOf store texts keys before
+  pub counted : (index : ℕ) (other : Key) → index < length keys → times (triple_of_key store texts keys index other) after ≡ get_or left index 0 + times (triple_of_key store texts keys index other) come
+  pub others : (t : Triple) → has triple_cmp t before ≡ false → times t after ≡ times t come

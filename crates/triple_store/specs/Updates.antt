@@ -1,5 +1,5 @@
 -- What the calls of a store that change the owners of triples ask for, and what they do.
-use Rattle.std.specs.Prelude.{◌≡◌, ◌<◌, ◌≤◌, true, List, [], Option, Result, Err, IfOk, IsOk, OnErr, OnOk}
+use Rattle.std.specs.Prelude.{◌≡◌, ℕ, ◌<◌, ◌≤◌, true, List, [], length, Option, Result, Err, IfOk, IsOk, OnErr, OnOk}
 use Rattle.std.specs.List.{AllByRecursion}
 use Rattle.rising.specs.Rising.{IsRising, has}
 use Rattle.base.specs.declared.memory.OutOfMemory.{OutOfMemory}
@@ -11,15 +11,16 @@ use Rattle.term_pool.specs.declared.fault.PoolFault.{PoolFault}
 use Rattle.term_pool.specs.declared.fault.PoolFault.TheVariants.{Full}
 use Rattle.slot_keys.specs.declared.key.Key.{Key}
 use Rattle.slot_keys.specs.Keys.{key_cmp}
-use Rattle.slot_keys.specs.declared.keys.Keys.{Keys}
 use Rattle.triple_store.specs.declared.telling.Change.{Change}
-use Rattle.triple_store.specs.declared.telling.Exchange.{Exchange}
 use Rattle.triple_store.specs.declared.telling.Telling.{Telling}
 use Rattle.triple_store.specs.declared.telling.Telling.TheVariants.{Nothing}
+use Rattle.triple_store.specs.declared.updates.Exchange.{Exchange}
 use Rattle.triple_store.specs.Counts.{Exchanges, count_of}
 use Rattle.triple_store.specs.Room.{room_for}
 use Rattle.triple_store.specs.StoreState.{AreKeysOf, IsSound, KeepsKeys, StoreState, beside, counts_in, is_key, limit_of}
 use Rattle.triple_store.specs.Telling.{TellsIf}
+use Rattle.triple_store.specs.Times as lent
+pub use Rattle.triple_store.specs.Times.{Becomes, times}
 
 -- the triples may come: their terms are fit and short, and no count of owners is saturated
 pub record MayCome (store : StoreState) (triples : List Triple) : Type 0 where
@@ -42,32 +43,41 @@ pub record KeepsRest (old new : StoreState) : Type 0 where
   pub limit : limit_of new ≡ limit_of old
   pub sound : IsSound new
 
--- triples came in the place of those of the keys, or a fault changed no count; the fault is `Full` if there is no room for them
-pub record IsExchange (old new : StoreState) (gone : List Key) (came : List Triple) (result : Result Keys PoolFault) : Type 0 where
-  pub ok : OnOk result ((triples : List Triple) → AreKeysOf old gone triples → Exchanges (counts_in old) (counts_in new) triples came)
-  pub err : OnErr result (counts_in new ≡ counts_in old)
-  pub keys : IfOk result (λ keys. AreKeysOf new keys.rising.items came)
-  pub full : result ≡ Err Full → limit_of old < room_for (counts_in old) came
-  pub within : OnOk result (room_for (counts_in old) came ≤ limit_of old)
-  pub free : came ≡ [] → IsOk result
+-- the keys are those of the triples, and each count says how many times the triple of its key stands among these
+abbrev pub AreTimesOf : StoreState → List Key → List ℕ → List Triple → Type 0
+AreTimesOf store keys counts triples = lent.AreTimesOf store.catalog store.texts keys counts triples
 
--- the triples of the keys have one owner less
-abbrev pub IsRelease : StoreState → StoreState → List Key → Type 0
-IsRelease old new gone = (triples : List Triple) → AreKeysOf old gone triples → Exchanges (counts_in old) (counts_in new) triples []
+-- the same where there are counts: an empty list says that they aren't known
+abbrev pub AreTimesIfKnown : StoreState → List Key → List ℕ → List Triple → Type 0
+AreTimesIfKnown store keys counts triples = 0 < length counts → AreTimesOf store keys counts triples
 
--- an exchange that tells the change where it is to be told; to tell it takes memory
-pub record IsToldExchange (telling : Telling) (old new : StoreState) (gone : List Key) (came : List Triple) (result : Result Exchange PoolFault) : Type 0 where
-  pub ok : OnOk result ((triples : List Triple) → AreKeysOf old gone triples → Exchanges (counts_in old) (counts_in new) triples came)
-  pub told : IfOk result (λ done. TellsIf telling (counts_in old) (counts_in new) done.change)
+-- of the times of the keys so many are left after these triples are gone
+abbrev pub AreLeft : StoreState → List Key → List ℕ → List ℕ → List Triple → Type 0
+AreLeft store keys counts left gone = lent.AddTimes store.catalog store.texts keys left counts gone
+
+-- an owner had some triples under these keys, and so many are left of each; with those that come it has the triples that it has now
+abbrev pub ComesTo : StoreState → List Key → List ℕ → List Triple → List Triple → List Triple → Type 0
+ComesTo store keys left come before after = lent.ComesTo store.catalog store.texts keys left come before after
+
+-- an owner had some triples and has others from now on, of which there are the keys and the times; the change is told where it is to be told
+pub record HasExchanged (telling : Telling) (old new : StoreState) (before after : List Triple) (done : Exchange) : Type 0 where
+  pub counts : Exchanges (counts_in old) (counts_in new) before after
+  pub told : TellsIf telling (counts_in old) (counts_in new) done.change
+  pub keys : AreKeysOf new done.keys.rising.items after
+  pub times : AreTimesIfKnown new done.keys.rising.items done.times.items after
+  pub within : room_for (counts_in old) after ≤ limit_of old
+
+-- what is left of an owner's triples, and others that come, are in the place of those that it had, or a fault changed no count. `Full` is
+-- said where there is no room for what the owner would have. Only what comes or stays takes memory, and what is told
+pub record IsExchange (telling : Telling) (old new : StoreState) (keys : List Key) (left : List ℕ) (come : List Triple) (result : Result Exchange PoolFault) : Type 0 where
+  pub done : IfOk result (λ done. (before after : List Triple) → ComesTo old keys left come before after → HasExchanged telling old new before after done)
   pub err : OnErr result (counts_in new ≡ counts_in old)
-  pub keys : IfOk result (λ done. AreKeysOf new done.keys.rising.items came)
-  pub full : result ≡ Err Full → limit_of old < room_for (counts_in old) came
-  pub within : OnOk result (room_for (counts_in old) came ≤ limit_of old)
-  pub free : telling ≡ Nothing → came ≡ [] → IsOk result
+  pub full : result ≡ Err Full → (before after : List Triple) → ComesTo old keys left come before after → limit_of old < room_for (counts_in old) after
+  pub free : telling ≡ Nothing → left ≡ [] → come ≡ [] → IsOk result
 
 -- a release that tells the change where it is to be told, or nothing changed, since to tell it takes memory
-pub record IsToldRelease (telling : Telling) (old new : StoreState) (gone : List Key) (result : Result (Option Change) OutOfMemory) : Type 0 where
-  pub ok : OnOk result (IsRelease old new gone)
+pub record IsRelease (telling : Telling) (old new : StoreState) (gone : List Key) (result : Result (Option Change) OutOfMemory) : Type 0 where
+  pub ok : OnOk result ((triples : List Triple) → AreKeysOf old gone triples → Exchanges (counts_in old) (counts_in new) triples [])
   pub told : IfOk result (λ change. TellsIf telling (counts_in old) (counts_in new) change)
   pub err : OnErr result (new ≡ old)
   pub free : telling ≡ Nothing → IsOk result

@@ -15,9 +15,8 @@ use crate::StoreFault;
 use crate::catalog::Catalog;
 use crate::finding::Near;
 use crate::interning::{Hints, intern_triple, release_triple};
-use comparison_steps::Steps;
+use comparison_steps::StepCounter;
 use slot_keys::{Key, Seen};
-use std::sync::ledger::Ledger;
 use term_pool::Pool;
 use text_region::Region;
 use triple_texts::TripleText;
@@ -84,12 +83,12 @@ impl Catalog {
 
     // Counts one owner more of the triple with these texts, which is taken in where it isn't stored. After a fault every
     // triple has the count that it had.
-    pub(crate) fn add<L: Ledger>(
+    pub(crate) fn add<C: StepCounter>(
         &mut self,
         region: &mut Region,
         texts: &TripleText<'_>,
         hints: Hints,
-        steps: &mut Steps<L>,
+        steps: &mut C,
     ) -> Result<Key, StoreFault>
         requires stored { IsStored self.old region.old }
         requires canonical { HasCanonicalTexts texts.now }
@@ -103,7 +102,7 @@ impl Catalog {
         ensures kept { (key : TheKey) (triple : Triple) → HasKey self.old region.old key triple → HasKey self.new region.new key triple }
         ensures beside { (piece : ThePiece) → beside self.new region.new piece ≡ beside self.old region.old piece }
         ensures limit { limit_of self.new ≡ limit_of self.old }
-        ensures cost { Costs (map.len self.old.index) (map.len self.new.index) 1 0 steps.old steps.new }
+        ensures cost { Costs (map.len self.old.index) (map.len self.new.index) 1 0 (C.total steps.old) (C.total steps.new) }
     {
         let key = match intern_triple(&mut self.pool, region, texts, hints) {
             Ok(key) => key,
@@ -123,7 +122,7 @@ impl Catalog {
     }
 
     // Counts one owner less of a stored triple, which goes with its last owner. Takes no memory.
-    pub(crate) fn remove<L: Ledger>(&mut self, region: &mut Region, key: Key, steps: &mut Steps<L>)
+    pub(crate) fn remove<C: StepCounter>(&mut self, region: &mut Region, key: Key, steps: &mut C)
         requires stored { IsStored self.old region.old }
         requires there { is_key self.old key ≡ true }
         ensures stored { IsStored self.new region.new }
@@ -131,7 +130,7 @@ impl Catalog {
         ensures keeps { KeepsKeys self.old region.old self.new region.new }
         ensures beside { (piece : ThePiece) → beside self.new region.new piece ≡ beside self.old region.old piece }
         ensures limit { limit_of self.new ≡ limit_of self.old }
-        ensures cost { Costs (map.len self.old.index) (map.len self.new.index) 0 1 steps.old steps.new }
+        ensures cost { Costs (map.len self.old.index) (map.len self.new.index) 0 1 (C.total steps.old) (C.total steps.new) }
     {
         if self.index.lower(key, steps) {
             release_triple(&mut self.pool, region, key);

@@ -10,25 +10,24 @@ ghost use Rattle.triple_store.specs.{Counts.count_of, Matching.key_agrees, Match
 ghost use Rattle.triple_store.specs.{Slots.HasTriple, Slots.term_in, Slots.triple_at, Stored.IsStored, Stored.counts_in, Stored.is_key};
 
 use crate::catalog::Catalog;
-use comparison_steps::Steps;
+use comparison_steps::StepCounter;
 use rdf_term::{Pattern, Term, Triple};
 use slot_index::SlotPattern;
 use slot_keys::Key;
-use std::sync::ledger::Ledger;
 use term_pool::Pool;
 use text_region::Region;
 
 impl Catalog {
     // How many entities own the triple: three look-ups and one search in one index.
-    pub(crate) fn count<L: Ledger>(
+    pub(crate) fn count<C: StepCounter>(
         &self,
         region: &Region,
         triple: &Triple,
-        steps: &mut Steps<L>,
+        steps: &mut C,
     ) -> u64
         requires { IsStored self.now region.now }
         ensures count { result ≡ count_of (counts_in self.now region.now) triple.now }
-        ensures cost { WithinSteps (map.len (counts_in self.now region.now)) 8 steps.old steps.new }
+        ensures cost { WithinSteps (map.len (counts_in self.now region.now)) 8 (C.total steps.old) (C.total steps.new) }
     {
         match self.key_of(region, triple) {
             Some(key) => self.index.count(key, steps),
@@ -37,16 +36,16 @@ impl Catalog {
     }
 
     // How many stored triples agree with the pattern. A wanted term costs one look-up; then it is the length of one range of one index.
-    pub(crate) fn matching_len<L: Ledger>(
+    pub(crate) fn matching_len<C: StepCounter>(
         &self,
         region: &Region,
         pattern: &Pattern,
-        steps: &mut Steps<L>,
+        steps: &mut C,
     ) -> usize
         requires { IsStored self.now region.now }
         ensures len { result ≡ length (rows (map.keys (counts_in self.now region.now)) pattern.now) }
-        ensures forward { steps.old ≤ steps.new }
-        ensures cost { (d : ℕ) → map.len (counts_in self.now region.now) < 2 ^ d → steps.new ≤ steps.old + 2 * (d + 8) }
+        ensures forward { C.total steps.old ≤ C.total steps.new }
+        ensures cost { (d : ℕ) → map.len (counts_in self.now region.now) < 2 ^ d → C.total steps.new ≤ C.total steps.old + 2 * (d + 8) }
     {
         match self.slots_of(region, pattern) {
             Some(wanted) => self.index.range_len(wanted, steps),

@@ -11,11 +11,12 @@ ghost use Rattle.triple_store.specs.Stored.{IsStored, KeepsKeys, beside, counts_
 
 use crate::StoreFault;
 use crate::catalog::Catalog;
-use comparison_steps::Steps;
+use crate::exchanging::Swap;
+use crate::telling::Telling;
+use comparison_steps::StepCounter;
 use rdf_term::{OutOfMemory, Triple};
-use slot_keys::KeySlices;
+use slot_keys::{KeySlices, Left};
 use std::alloc::Global;
-use std::sync::ledger::Ledger;
 use text_region::Region;
 use triple_patch::Patch;
 use triple_sink::emit_all;
@@ -23,11 +24,11 @@ use triple_texts::TripleTexts;
 
 impl Catalog {
     // Counts one owner more of each triple that comes and one less of each that goes.
-    pub(crate) fn apply<L: Ledger>(
+    pub(crate) fn apply<C: StepCounter>(
         &mut self,
         region: &mut Region,
         patch: &Patch,
-        steps: &mut Steps<L>,
+        steps: &mut C,
     ) -> Result<(), StoreFault>
         requires stored { IsStored self.old region.old }
         requires fit { AllByRecursion HasFitAndShortTerms patch.now.adds }
@@ -42,13 +43,22 @@ impl Catalog {
         ensures keeps { KeepsKeys self.old region.old self.new region.new }
         ensures beside { (piece : ThePiece) → beside self.new region.new piece ≡ beside self.old region.old piece }
         ensures limit { limit_of self.new ≡ limit_of self.old }
-        ensures cost { Costs (map.len (counts_in self.old region.old)) (map.len (counts_in self.new region.new)) (length patch.now.adds) (length patch.now.adds + length patch.now.removes) steps.old steps.new }
+        ensures cost { Costs (map.len (counts_in self.old region.old)) (map.len (counts_in self.new region.new)) (length patch.now.adds) (length patch.now.adds + length patch.now.removes) (C.total steps.old) (C.total steps.new) }
     {
+        if patch.adds.items().is_empty() {
+            self.remove_all(region, patch.removes.items(), steps);
+            return Ok(());
+        }
         let Ok(texts) = texts_of(self.alloc, patch.adds.items()) else {
             return Err(StoreFault::OutOfMemory);
         };
-        match self.exchange(region, KeySlices::none(), &texts, steps) {
-            Ok(_keys) => {
+        let left = Left {
+            keys: KeySlices::none(),
+            counts: &[],
+        };
+        let new = &texts;
+        match self.exchange(region, Swap { left, new }, Telling::Nothing, steps) {
+            Ok(_given) => {
                 self.remove_all(region, patch.removes.items(), steps);
                 Ok(())
             }
@@ -57,17 +67,12 @@ impl Catalog {
     }
 
     // Counts one owner less of each triple. It takes no memory.
-    fn remove_all<L: Ledger>(
-        &mut self,
-        region: &mut Region,
-        triples: &[Triple],
-        steps: &mut Steps<L>,
-    )
+    fn remove_all<C: StepCounter>(&mut self, region: &mut Region, triples: &[Triple], steps: &mut C)
         requires stored { IsStored self.old region.old }
         requires rising { IsRising triple_cmp triples.now }
         requires there { (triple : TheTriple) → has triple_cmp triple triples.now ≡ true → 0 < count_of (counts_in self.old region.old) triple }
         ensures loses { Loses self.old region.old self.new region.new triples.now }
-        ensures cost { Costs (map.len self.old.index) (map.len self.new.index) 0 (length triples.now) steps.old steps.new }
+        ensures cost { Costs (map.len self.old.index) (map.len self.new.index) 0 (length triples.now) (C.total steps.old) (C.total steps.new) }
     {
         for triple in triples {
             let Some(key) = self.key_of(region, triple) else {
@@ -78,15 +83,11 @@ impl Catalog {
     }
 }
 
-// Triples by their texts. Without triples it takes no memory.
+// Triples by their texts.
 fn texts_of(alloc: Global, triples: &[Triple]) -> Result<TripleTexts, OutOfMemory>
-    ensures texts { IfOk result (λ texts. texts ≡ triples.now) }
-    ensures free { triples.now ≡ [] → IsOk result }
+    ensures { IfOk result (λ texts. texts ≡ triples.now) }
 {
     let mut texts = TripleTexts::new(alloc);
-    if triples.is_empty() {
-        return Ok(texts);
-    }
     emit_all(alloc, triples, &mut texts)?;
     Ok(texts)
 }

@@ -1,5 +1,5 @@
-// The stored triples, or those that agree with a pattern, and the number of the owners of one: the store's calls, each with its steps
-// counted and without.
+// The stored triples, or those that agree with a pattern, and the number of the owners of one: the store's calls. A call that takes a
+// counter tells it the steps in the index.
 
 ghost use Rattle.std.specs.Prelude.{◌≡◌, ◌+◌, ◌*◌, ◌^◌, ◌<◌, ◌≤◌, ℕ, List, length, IfOk};
 ghost use Rattle.std.specs.FinMap as map;
@@ -10,11 +10,9 @@ ghost use Rattle.triple_store.specs.{Counts.count_of, StoreState.AreKeysOf, Stor
 
 use crate::rows::Rows;
 use crate::store::Store;
-use comparison_steps::Steps;
+use comparison_steps::{StepCounter, Uncounted};
 use rdf_term::{OutOfMemory, Pattern, Triple, TripleSet};
 use slot_keys::KeySlices;
-use std::marker::Brand;
-use std::sync::ledger::{Blank, Ledger};
 
 impl Store {
     /// The stored triples in their order. Each of their terms is ranked once, by its text, and the triples are sorted by the ranks of their
@@ -22,7 +20,7 @@ impl Store {
     pub fn rows(&self) -> Result<Rows<'_>, OutOfMemory>
         ensures rows { IfOk result (λ found. found ≡ map.keys (counts_in self.now)) }
     {
-        rows_by::<Brand>(self, Blank::new(1))
+        self.catalog.all_rows(&self.region)
     }
 
     /// The stored triples, in memory of their own: each is read from its texts.
@@ -33,39 +31,26 @@ impl Store {
     }
 
     /// The stored triples that agree with the pattern. A wanted term costs one look-up; then it is one range of one index, and
-    /// the triples of that range, three slices each, are sorted.
-    pub fn matching(&self, pattern: &Pattern) -> Result<Rows<'_>, OutOfMemory>
-        ensures rows { IfOk result (λ found. found ≡ rows (map.keys (counts_in self.now)) pattern.now) }
-    {
-        matching_by::<Brand>(self, pattern, Blank::new(1))
-    }
-
-    /// The same, counting the steps in the index: whatever the answer, at most nine more than the triples that agree and the binary
-    /// digits of the number of stored triples together.
-    pub fn matching_counting<L: Ledger>(
+    /// the triples of that range, three slices each, are sorted. Whatever the answer, it takes at most nine steps more than the triples that
+    /// agree and the binary digits of the number of stored triples together.
+    pub fn matching<C: StepCounter>(
         &self,
         pattern: &Pattern,
-        steps: &mut Steps<L>,
+        steps: &mut C,
     ) -> Result<Rows<'_>, OutOfMemory>
         ensures rows { IfOk result (λ found. found ≡ rows (map.keys (counts_in self.now)) pattern.now) }
-        ensures cost { WithinSteps (map.len (counts_in self.now)) (9 + length (rows (map.keys (counts_in self.now)) pattern.now)) steps.old steps.new }
+        ensures cost { WithinSteps (map.len (counts_in self.now)) (9 + length (rows (map.keys (counts_in self.now)) pattern.now)) (C.total steps.old) (C.total steps.new) }
     {
         self.catalog.matching(&self.region, pattern, steps)
     }
 
     /// How many stored triples agree with the pattern, which takes no memory. A wanted term costs one look-up; then it is the length of one
-    /// range of one index, of which no triple is looked at but to find its ends.
-    pub fn matching_len(&self, pattern: &Pattern) -> usize
-        ensures { result ≡ length (rows (map.keys (counts_in self.now)) pattern.now) }
-    {
-        matching_len_by::<Brand>(self, pattern, Blank::new(1))
-    }
-
-    /// The same, counting the steps in the index: at most twice as many as the number of stored triples has binary digits, and 16 more.
-    pub fn matching_len_counting<L: Ledger>(&self, pattern: &Pattern, steps: &mut Steps<L>) -> usize
+    /// range of one index, of which no triple is looked at but to find its ends. It takes at most twice as many steps as the number of
+    /// stored triples has binary digits, and 16 more.
+    pub fn matching_len<C: StepCounter>(&self, pattern: &Pattern, steps: &mut C) -> usize
         ensures len { result ≡ length (rows (map.keys (counts_in self.now)) pattern.now) }
-        ensures forward { steps.old ≤ steps.new }
-        ensures cost { (d : ℕ) → map.len (counts_in self.now) < 2 ^ d → steps.new ≤ steps.old + 2 * (d + 8) }
+        ensures forward { C.total steps.old ≤ C.total steps.new }
+        ensures cost { (d : ℕ) → map.len (counts_in self.now) < 2 ^ d → C.total steps.new ≤ C.total steps.old + 2 * (d + 8) }
     {
         self.catalog.matching_len(&self.region, pattern, steps)
     }
@@ -74,19 +59,7 @@ impl Store {
     pub fn matches(&self, pattern: &Pattern) -> Result<TripleSet, OutOfMemory>
         ensures rows { IfOk result (λ set. set ≡ rows (map.keys (counts_in self.now)) pattern.now) }
     {
-        self.matching(pattern)?.to_set(self.catalog.alloc)
-    }
-
-    /// The same, counting the steps in the index, which are those of `matching_counting`.
-    pub fn matches_counting<L: Ledger>(
-        &self,
-        pattern: &Pattern,
-        steps: &mut Steps<L>,
-    ) -> Result<TripleSet, OutOfMemory>
-        ensures rows { IfOk result (λ set. set ≡ rows (map.keys (counts_in self.now)) pattern.now) }
-        ensures cost { WithinSteps (map.len (counts_in self.now)) (9 + length (rows (map.keys (counts_in self.now)) pattern.now)) steps.old steps.new }
-    {
-        self.matching_counting(pattern, steps)?
+        self.matching(pattern, &mut Uncounted)?
             .to_set(self.catalog.alloc)
     }
 
@@ -98,60 +71,12 @@ impl Store {
         self.catalog.rows_of(&self.region, keys.rising)
     }
 
-    /// How many entities own the triple, which takes no memory: three look-ups and one search in one index.
-    pub fn owners(&self, triple: &Triple) -> u64
-        ensures { result ≡ count_of (counts_in self.now) triple.now }
-    {
-        owners_by::<Brand>(self, triple, Blank::new(1))
-    }
-
-    /// The same, counting the steps in the index: at most eight more than the number of stored triples has binary digits.
-    pub fn owners_counting<L: Ledger>(&self, triple: &Triple, steps: &mut Steps<L>) -> u64
+    /// How many entities own the triple, which takes no memory: three look-ups and one search in one index, of at most eight steps more than
+    /// the number of stored triples has binary digits.
+    pub fn owners<C: StepCounter>(&self, triple: &Triple, steps: &mut C) -> u64
         ensures count { result ≡ count_of (counts_in self.now) triple.now }
-        ensures cost { WithinSteps (map.len (counts_in self.now)) 8 steps.old steps.new }
+        ensures cost { WithinSteps (map.len (counts_in self.now)) 8 (C.total steps.old) (C.total steps.new) }
     {
         self.catalog.count(&self.region, triple, steps)
     }
-}
-
-fn rows_by<L: Ledger>(store: &Store, blank: Blank) -> Result<Rows<'_>, OutOfMemory>
-    requires name { blank.name ≡ L.name }
-    requires parts { blank.parts ≡ L.parts }
-    requires some { 0 < blank.parts }
-    ensures rows { IfOk result (λ found. found ≡ map.keys (counts_in store.now)) }
-{
-    store
-        .catalog
-        .all_rows(&store.region, &mut Steps::<L>::new(blank))
-}
-
-fn matching_by<'a, L: Ledger>(
-    store: &'a Store,
-    pattern: &Pattern,
-    blank: Blank,
-) -> Result<Rows<'a>, OutOfMemory>
-    requires name { blank.name ≡ L.name }
-    requires parts { blank.parts ≡ L.parts }
-    requires some { 0 < blank.parts }
-    ensures rows { IfOk result (λ found. found ≡ rows (map.keys (counts_in store.now)) pattern.now) }
-{
-    store.matching_counting(pattern, &mut Steps::<L>::new(blank))
-}
-
-fn matching_len_by<L: Ledger>(store: &Store, pattern: &Pattern, blank: Blank) -> usize
-    requires name { blank.name ≡ L.name }
-    requires parts { blank.parts ≡ L.parts }
-    requires some { 0 < blank.parts }
-    ensures { result ≡ length (rows (map.keys (counts_in store.now)) pattern.now) }
-{
-    store.matching_len_counting(pattern, &mut Steps::<L>::new(blank))
-}
-
-fn owners_by<L: Ledger>(store: &Store, triple: &Triple, blank: Blank) -> u64
-    requires name { blank.name ≡ L.name }
-    requires parts { blank.parts ≡ L.parts }
-    requires some { 0 < blank.parts }
-    ensures { result ≡ count_of (counts_in store.now) triple.now }
-{
-    store.owners_counting(triple, &mut Steps::<L>::new(blank))
 }

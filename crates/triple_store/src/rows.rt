@@ -15,14 +15,13 @@ use crate::catalog::Catalog;
 use crate::ranking::Ranked;
 use crate::reading::read_row;
 use crate::telling::TripleLines;
-use comparison_steps::Steps;
+use comparison_steps::{StepCounter, Uncounted};
 use rdf_term::{List, OutOfMemory, Pattern, TripleSet};
 use slot_index::SlotPattern;
 use slot_keys::Key;
 use std::alloc::Global;
 use std::cmp::Ordering;
 use std::marker::Model;
-use std::sync::ledger::Ledger;
 use term_pool::Slot;
 use text_region::Region;
 use triple_texts::TripleText;
@@ -120,15 +119,15 @@ impl<'a> Rows<'a> {
 impl Catalog {
     // The stored triples that agree with the pattern. A wanted term costs one look-up; then it is one range of one index, and the
     // triples of that range, three slices each, are sorted.
-    pub(crate) fn matching<'a, L: Ledger>(
+    pub(crate) fn matching<'a, C: StepCounter>(
         &self,
         region: &'a Region,
         pattern: &Pattern,
-        steps: &mut Steps<L>,
+        steps: &mut C,
     ) -> Result<Rows<'a>, OutOfMemory>
         requires { IsStored self.now region.now }
         ensures rows { IfOk result (λ found. found ≡ rows (map.keys (counts_in self.now region.now)) pattern.now) }
-        ensures cost { WithinSteps (map.len (counts_in self.now region.now)) (9 + length (rows (map.keys (counts_in self.now region.now)) pattern.now)) steps.old steps.new }
+        ensures cost { WithinSteps (map.len (counts_in self.now region.now)) (9 + length (rows (map.keys (counts_in self.now region.now)) pattern.now)) (C.total steps.old) (C.total steps.new) }
     {
         let Some(wanted) = self.slots_of(region, pattern) else {
             return Ok(Rows {
@@ -144,11 +143,7 @@ impl Catalog {
     }
 
     // All stored triples, sorted by the ranks of their terms.
-    pub(crate) fn all_rows<'a, L: Ledger>(
-        &self,
-        region: &'a Region,
-        steps: &mut Steps<L>,
-    ) -> Result<Rows<'a>, OutOfMemory>
+    pub(crate) fn all_rows<'a>(&self, region: &'a Region) -> Result<Rows<'a>, OutOfMemory>
         requires { IsStored self.now region.now }
         ensures { IfOk result (λ found. found ≡ map.keys (counts_in self.now region.now)) }
     {
@@ -157,7 +152,7 @@ impl Catalog {
             second: None,
             third: None,
         };
-        let keys = self.index.range(every, steps)?;
+        let keys = self.index.range(every, &mut Uncounted)?;
         if let Some(ranked) = self.ranked(region, keys.as_slice())? {
             return Ok(Rows {
                 found: Found::ByRanks(ranked),

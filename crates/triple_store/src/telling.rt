@@ -9,10 +9,9 @@ ghost use Rattle.triple_store.specs.{Costs.Costs, Moves.triples_at, Stored.IsSto
 ghost use Rattle.triple_store.specs.Telling.{AreLinesOf, LinesIf, if_told, sole};
 
 use crate::catalog::Catalog;
-use comparison_steps::Steps;
+use comparison_steps::StepCounter;
 use rdf_term::OutOfMemory;
-use slot_keys::{Key, Keys, find_from};
-use std::sync::ledger::Ledger;
+use slot_keys::{Key, find_from};
 use text_region::Region;
 
 /// Whether a call tells what it changed of the stored triples.
@@ -38,13 +37,6 @@ pub struct Change {
     pub gone: TripleLines,
 }
 
-/// The keys of the triples that an owner has after an exchange, and what the exchange changed, where it was to tell that.
-#[derive(Debug, Drop)]
-pub struct Exchange {
-    pub keys: Keys,
-    pub change: Option<Change>,
-}
-
 // The keys that an owner had, and those that it has from now on.
 #[derive(Clone, Copy)]
 pub(crate) struct Sides<'a> {
@@ -54,12 +46,12 @@ pub(crate) struct Sides<'a> {
 
 impl Catalog {
     // If asked: which triples the new keys made stored, and which will go with the old keys. The triples of both are stored.
-    pub(crate) fn change_if<L: Ledger>(
+    pub(crate) fn change_if<C: StepCounter>(
         &self,
         telling: Telling,
         region: &Region,
         sides: Sides<'_>,
-        steps: &mut Steps<L>,
+        steps: &mut C,
     ) -> Result<Option<Change>, OutOfMemory>
         requires stored { IsStored self.now region.now }
         requires rising { IsRising key_cmp sides.old.now }
@@ -68,7 +60,7 @@ impl Catalog {
         requires there_new { (key : TheKey) → has key_cmp key sides.new.now ≡ true → is_key self.now key ≡ true }
         ensures lines { IfOk result (λ change. LinesIf telling (sorted triple_cmp (triples_at self.now region.now (sole self.now sides.entry.new.now sides.entry.old.now))) (sorted triple_cmp (triples_at self.now region.now (sole self.now sides.entry.old.now sides.entry.new.now))) change) }
         ensures free { telling ≡ Telling.Nothing → IsOk result }
-        ensures cost { Costs (map.len self.now.index) (map.len self.now.index) 0 (if_told telling (length sides.entry.new.now + length sides.entry.old.now)) steps.old steps.new }
+        ensures cost { Costs (map.len self.now.index) (map.len self.now.index) 0 (if_told telling (length sides.entry.new.now + length sides.entry.old.now)) (C.total steps.old) (C.total steps.new) }
     {
         match telling {
             Telling::Nothing => Ok(None),
@@ -81,11 +73,11 @@ impl Catalog {
 
     // The same, told in any case. A triple came where its key is a new one alone and has one owner, and it goes where its key is an old
     // one alone and has one owner.
-    fn change_of<L: Ledger>(
+    fn change_of<C: StepCounter>(
         &self,
         region: &Region,
         sides: Sides<'_>,
-        steps: &mut Steps<L>,
+        steps: &mut C,
     ) -> Result<Change, OutOfMemory>
         requires stored { IsStored self.now region.now }
         requires rising { IsRising key_cmp sides.old.now }
@@ -94,7 +86,7 @@ impl Catalog {
         requires there_new { (key : TheKey) → has key_cmp key sides.new.now ≡ true → is_key self.now key ≡ true }
         ensures came { IfOk result (λ change. AreLinesOf change.came (sorted triple_cmp (triples_at self.now region.now (sole self.now sides.entry.new.now sides.entry.old.now)))) }
         ensures gone { IfOk result (λ change. AreLinesOf change.gone (sorted triple_cmp (triples_at self.now region.now (sole self.now sides.entry.old.now sides.entry.new.now)))) }
-        ensures cost { Costs (map.len self.now.index) (map.len self.now.index) 0 (length sides.entry.new.now + length sides.entry.old.now) steps.old steps.new }
+        ensures cost { Costs (map.len self.now.index) (map.len self.now.index) 0 (length sides.entry.new.now + length sides.entry.old.now) (C.total steps.old) (C.total steps.new) }
     {
         let came = self.sole_lines(region, sides.new, sides.old, steps)?;
         let gone = self.sole_lines(region, sides.old, sides.new, steps)?;
@@ -102,19 +94,19 @@ impl Catalog {
     }
 
     // The lines of the triples with one owner whose keys are these, but for the keys that are among others.
-    fn sole_lines<L: Ledger>(
+    fn sole_lines<C: StepCounter>(
         &self,
         region: &Region,
         keys: &[Key],
         others: &[Key],
-        steps: &mut Steps<L>,
+        steps: &mut C,
     ) -> Result<TripleLines, OutOfMemory>
         requires stored { IsStored self.now region.now }
         requires rising { IsRising key_cmp keys.now }
         requires others { IsRising key_cmp others.now }
         requires there { (key : TheKey) → has key_cmp key keys.now ≡ true → is_key self.now key ≡ true }
         ensures lines { IfOk result (λ lines. AreLinesOf lines (sorted triple_cmp (triples_at self.now region.now (sole self.now keys.now others.now)))) }
-        ensures cost { Costs (map.len self.now.index) (map.len self.now.index) 0 (length keys.now) steps.old steps.new }
+        ensures cost { Costs (map.len self.now.index) (map.len self.now.index) 0 (length keys.now) (C.total steps.old) (C.total steps.new) }
     {
         let found = self.sole_keys(keys, others, steps)?;
         let rows = self.rows_of(region, found.as_slice())?;
@@ -122,15 +114,15 @@ impl Catalog {
     }
 
     // The keys with one owner, but for those that are among others.
-    fn sole_keys<L: Ledger>(
+    fn sole_keys<C: StepCounter>(
         &self,
         keys: &[Key],
         others: &[Key],
-        steps: &mut Steps<L>,
+        steps: &mut C,
     ) -> Result<Vec<Key>, OutOfMemory>
         requires others { IsRising key_cmp others.now }
         ensures sole { IfOk result (λ found. found.items ≡ sole self.now keys.now others.now) }
-        ensures cost { Costs (map.len self.now.index) (map.len self.now.index) 0 (length keys.now) steps.old steps.new }
+        ensures cost { Costs (map.len self.now.index) (map.len self.now.index) 0 (length keys.now) (C.total steps.old) (C.total steps.new) }
     {
         let mut found = Vec::new(self.alloc);
         let mut next = 0;

@@ -11,32 +11,8 @@ use text_region::Region;
 use triple_texts::{TripleText, TripleTexts};
 
 impl Catalog {
-    // The counts of the keys after these triples came, or what is left of them after the triples are gone. None where a triple has none of the
-    // keys, a count would be too large or too small, or memory is refused. The walk is a hint: where it comes to a triple's key, this takes no
-    // look-up.
-    pub(crate) fn add_times(
-        &self,
-        region: &Region,
-        keys: KeySlices<'_>,
-        counts: Vec<u16>,
-        triples: &TripleTexts,
-    ) -> Option<Vec<u16>>
-        requires stored { IsStored self.now region.now }
-        requires rising { IsRising key_cmp keys.rising.now }
-        requires there { (key : TheKey) → has key_cmp key keys.rising.now ≡ true → is_key self.now key ≡ true }
-        requires as_many { length counts.items ≡ length keys.rising.now }
-        ensures { IfSome result (λ added. AddTimes self.now region.now keys.entry.rising.now counts.items added.items triples.now) }
-    {
-        let mut counts = counts;
-        for index in 0..triples.len() {
-            let texts = triples.get(index);
-            let at = self.index_of(region, keys, &texts, index)?;
-            counts[at] = counts[at].checked_add(1)?;
-        }
-        Some(counts)
-    }
-
-    // The counts of the keys before these triples came.
+    // What is left of the counts of the keys after the triples are gone. None where a triple has none of the keys, or a count would be too small.
+    // The walk is a hint: where it comes to a triple's key, this takes no look-up.
     pub(crate) fn less_times(
         &self,
         region: &Region,

@@ -1,237 +1,150 @@
-// Triples get owners and lose them: the store's calls, each with its steps counted and without.
+// Triples get owners and lose them: the store's calls. A counter is told their steps in the index.
 
-ghost use Rattle.std.specs.Prelude.{◌≡◌, ◌+◌, ◌<◌, length};
+ghost use Rattle.std.specs.Prelude.{◌≡◌, ◌+◌, ◌<◌, false, List, [], length, IfOk, IfSome, IsTrue};
 ghost use Rattle.std.specs.FinMap as map;
+ghost use Rattle.rdf_term.specs.declared.triple.Triple.{Triple};
 ghost use Rattle.triple_store.specs.{Costs.Costs, StoreState.counts_in, Telling.if_told};
-ghost use Rattle.triple_store.specs.Updates.{AreStored, IsExchange, IsPatched, IsRelease, IsToldExchange, IsToldRelease, KeepsRest, MayCome, MayGo};
+ghost use Rattle.triple_store.specs.Updates.{AreLeft, AreStored, ComesTo, IsExchange, IsPatched, IsRelease, KeepsRest, MayCome, MayGo};
 
 use crate::StoreFault;
-use crate::exchanging::Swap;
+use crate::exchanging::{Swap, timed};
 use crate::store::Store;
-use crate::telling::{Change, Exchange, Telling};
-use comparison_steps::Steps;
+use crate::telling::{Change, Telling};
+use comparison_steps::StepCounter;
 use rdf_term::OutOfMemory;
-use slot_keys::{KeySlices, Keys};
-use std::marker::Brand;
-use std::sync::ledger::{Blank, Ledger};
+use slot_keys::{KeySlices, Keys, Left, copied};
 use triple_patch::Patch;
 use triple_texts::TripleTexts;
 
+/// What an exchange gives.
+#[derive(Debug, Drop)]
+pub struct Exchange {
+    /// The keys of the triples that the owner has from now on.
+    pub keys: Keys,
+    /// How many times the triple of each key comes, in the order of the keys; empty where this isn't known.
+    pub times: Vec<u16>,
+    /// What the exchange changed of the stored triples, where it was to tell that.
+    pub change: Option<Change>,
+}
+
 impl Store {
-    /// Puts the triples of one owner in the place of those that it had, which its keys tell; the walk beside these is a hint. A triple of
-    /// both costs only comparisons if it comes in the order of the walk, and look-ups otherwise. After a fault every triple has the count
-    /// that it had. Without new triples it always succeeds.
-    pub fn exchange(&mut self, old: KeySlices<'_>, new: &TripleTexts) -> Result<Keys, StoreFault>
-        requires may_come { MayCome self.old new.now }
-        requires stored { AreStored self.old old.rising.now }
-        ensures exchanged { IsExchange self.old self.new old.entry.rising.now new.now result }
-        ensures rest { KeepsRest self.old self.new }
-    {
-        exchange_by::<Brand>(self, old, new, Blank::new(1))
-    }
-
-    /// The same, counting the steps in the index: at most 8 (d + 8) for each new triple and 3 (d + 8) for each old one, where d is the
-    /// number of binary digits of the number of stored and new triples together.
-    pub fn exchange_counting<L: Ledger>(
+    /// Puts the triples of one owner in the place of those that it had. Beside the keys of these stands what is left of the times of each,
+    /// or nothing where the new triples are all that the owner has then. What is left needs no texts, no look-up and no comparison; a new
+    /// triple that the owner had costs only comparisons if it comes in the order of the walk, and look-ups otherwise. If asked, the exchange
+    /// tells which triples it added to the stored ones and which it removed: that takes a look-up at most for each old and each new triple,
+    /// and memory for the lines of those told. After a fault every triple has the count that it had. The times are empty where one is above
+    /// 65,535 or memory for them is refused. It takes at most 8 (d + 8) steps for each triple that the owner has from now on and 3 (d + 8)
+    /// for each that it had, and 3 (d + 8) more for each where the change is told; d is the number of binary digits of the number of
+    /// stored triples and of those that it has from now on together.
+    pub fn exchange<C: StepCounter>(
         &mut self,
-        old: KeySlices<'_>,
-        new: &TripleTexts,
-        steps: &mut Steps<L>,
-    ) -> Result<Keys, StoreFault>
-        requires may_come { MayCome self.old new.now }
-        requires stored { AreStored self.old old.rising.now }
-        ensures exchanged { IsExchange self.old self.new old.entry.rising.now new.now result }
-        ensures rest { KeepsRest self.old self.new }
-        ensures cost { Costs (map.len (counts_in self.old)) (map.len (counts_in self.new)) (length new.now) (length new.now + length old.entry.rising.now) steps.old steps.new }
-    {
-        self.catalog.exchange(&mut self.region, old, new, steps)
-    }
-
-    /// Does what `exchange` does, and if asked, tells which triples it added to the stored ones and which it removed. Telling takes a
-    /// look-up at most for each old and each new triple, and memory for the lines of those told. After a fault every triple has the count
-    /// that it had.
-    pub fn exchange_with(
-        &mut self,
-        old: KeySlices<'_>,
+        left: Left<'_>,
         new: &TripleTexts,
         telling: Telling,
+        steps: &mut C,
     ) -> Result<Exchange, StoreFault>
         requires may_come { MayCome self.old new.now }
-        requires stored { AreStored self.old old.rising.now }
-        ensures exchanged { IsToldExchange telling self.old self.new old.entry.rising.now new.now result }
+        requires stored { AreStored self.old left.keys.rising.now }
+        requires as_many { 0 < length left.counts.now → length left.counts.now ≡ length left.keys.rising.now }
+        ensures exchanged { IsExchange telling self.old self.new left.entry.keys.rising.now left.entry.counts.now new.now result }
         ensures rest { KeepsRest self.old self.new }
+        ensures cost { (before after : List Triple) → ComesTo self.old left.entry.keys.rising.now left.entry.counts.now new.now before after → Costs (map.len (counts_in self.old)) (map.len (counts_in self.new)) (length after) (if_told telling (length after + length left.entry.keys.rising.now) + (length after + length left.entry.keys.rising.now)) (C.total steps.old) (C.total steps.new) }
     {
-        exchange_with_by::<Brand>(self, old, new, telling, Blank::new(1))
+        if is_nothing(left, new) {
+            return self.exchange_for_none(left.keys, telling, steps);
+        }
+        match self
+            .catalog
+            .exchange(&mut self.region, Swap { left, new }, telling, steps)
+        {
+            Ok(done) => Ok(timed(self.catalog.alloc, done)),
+            Err(fault) => Err(fault),
+        }
     }
 
-    /// The same, counting the steps in the index: where the change is told, at most 11 (d + 8) for each new triple and 6 (d + 8) for each
-    /// old one, where d is the number of binary digits of the number of stored and new triples together.
-    pub fn exchange_with_counting<L: Ledger>(
+    // The same where nothing is left and nothing comes. Only telling takes memory.
+    fn exchange_for_none<C: StepCounter>(
         &mut self,
         old: KeySlices<'_>,
-        new: &TripleTexts,
         telling: Telling,
-        steps: &mut Steps<L>,
+        steps: &mut C,
     ) -> Result<Exchange, StoreFault>
-        requires may_come { MayCome self.old new.now }
         requires stored { AreStored self.old old.rising.now }
-        ensures exchanged { IsToldExchange telling self.old self.new old.entry.rising.now new.now result }
+        ensures exchanged { IsExchange telling self.old self.new old.entry.rising.now [] [] result }
         ensures rest { KeepsRest self.old self.new }
-        ensures cost { Costs (map.len (counts_in self.old)) (map.len (counts_in self.new)) (length new.now) (if_told telling (length new.now + length old.entry.rising.now) + (length new.now + length old.entry.rising.now)) steps.old steps.new }
+        ensures cost { Costs (map.len (counts_in self.old)) (map.len (counts_in self.new)) 0 (if_told telling (length old.entry.rising.now) + length old.entry.rising.now) (C.total steps.old) (C.total steps.new) }
     {
-        self.catalog
-            .exchange_with(&mut self.region, Swap { old, new }, telling, steps)
+        match self
+            .catalog
+            .release(&mut self.region, old.rising, telling, steps)
+        {
+            Ok(change) => Ok(Exchange {
+                keys: Keys::none(self.catalog.alloc),
+                times: Vec::new(self.catalog.alloc),
+                change,
+            }),
+            Err(_) => Err(StoreFault::OutOfMemory),
+        }
     }
 
-    /// Takes one owner away from the triples of these keys. It takes no memory.
-    pub fn release(&mut self, old: KeySlices<'_>)
-        requires stored { AreStored self.old old.rising.now }
-        ensures released { IsRelease self.old self.new old.entry.rising.now }
-        ensures rest { KeepsRest self.old self.new }
+    /// What is left of the times of an owner's triples after some are gone, in the order of the keys. `None` where the times aren't known, or a
+    /// triple that is gone isn't one of the owner's as many times. Where the walk comes to the key of a triple, this compares texts and
+    /// looks nothing up.
+    pub fn times_left(
+        &self,
+        keys: KeySlices<'_>,
+        times: &[u16],
+        gone: &TripleTexts,
+    ) -> Result<Option<Vec<u16>>, OutOfMemory>
+        requires { AreStored self.now keys.rising.now }
+        ensures left { IfOk result (λ known. IfSome known (λ left. AreLeft self.now keys.entry.rising.now times.now left.items gone.now)) }
+        ensures as_many { IfOk result (λ known. IfSome known (λ left. length left.items ≡ length keys.entry.rising.now)) }
+        ensures some { IfOk result (λ known. IfSome known (λ left. 0 < length left.items)) }
     {
-        release_by::<Brand>(self, old, Blank::new(1));
+        if times.is_empty() || times.len() != keys.rising.len() {
+            return Ok(None);
+        }
+        let counts = copied(self.catalog.alloc, times)?;
+        Ok(self.catalog.less_times(&self.region, keys, counts, gone))
     }
 
-    /// The same, counting the steps in the index: at most 3 (d + 8) for each key, where d is the number of binary digits of the number
-    /// of stored triples.
-    pub fn release_counting<L: Ledger>(&mut self, old: KeySlices<'_>, steps: &mut Steps<L>)
-        requires stored { AreStored self.old old.rising.now }
-        ensures released { IsRelease self.old self.new old.entry.rising.now }
-        ensures rest { KeepsRest self.old self.new }
-        ensures cost { Costs (map.len (counts_in self.old)) (map.len (counts_in self.new)) 0 (length old.entry.rising.now) steps.old steps.new }
-    {
-        self.catalog.release(&mut self.region, old.rising, steps);
-    }
-
-    /// Does what `release` does, and where it is to tell the change, tells which triples it made stored no longer. Only telling takes
-    /// memory. After `OutOfMemory` the store is as it was.
-    pub fn release_with(
+    /// Takes one owner away from the triples of these keys, and where it is to tell the change, tells which triples it made stored no longer.
+    /// Only telling takes memory. After `OutOfMemory` the store is as it was. It takes at most 3 (d + 8) steps for each key, and as many more
+    /// where the change is told, where d is the number of binary digits of the number of stored triples.
+    pub fn release<C: StepCounter>(
         &mut self,
         old: KeySlices<'_>,
         telling: Telling,
+        steps: &mut C,
     ) -> Result<Option<Change>, OutOfMemory>
         requires stored { AreStored self.old old.rising.now }
-        ensures released { IsToldRelease telling self.old self.new old.entry.rising.now result }
+        ensures released { IsRelease telling self.old self.new old.entry.rising.now result }
         ensures rest { KeepsRest self.old self.new }
-    {
-        release_with_by::<Brand>(self, old, telling, Blank::new(1))
-    }
-
-    /// The same, counting the steps in the index: where the change is told, at most 6 (d + 8) for each key, where d is the number of
-    /// binary digits of the number of stored triples.
-    pub fn release_with_counting<L: Ledger>(
-        &mut self,
-        old: KeySlices<'_>,
-        telling: Telling,
-        steps: &mut Steps<L>,
-    ) -> Result<Option<Change>, OutOfMemory>
-        requires stored { AreStored self.old old.rising.now }
-        ensures released { IsToldRelease telling self.old self.new old.entry.rising.now result }
-        ensures rest { KeepsRest self.old self.new }
-        ensures cost { Costs (map.len (counts_in self.old)) (map.len (counts_in self.new)) 0 (if_told telling (length old.entry.rising.now) + length old.entry.rising.now) steps.old steps.new }
+        ensures cost { Costs (map.len (counts_in self.old)) (map.len (counts_in self.new)) 0 (if_told telling (length old.entry.rising.now) + length old.entry.rising.now) (C.total steps.old) (C.total steps.new) }
     {
         self.catalog
-            .release_with(&mut self.region, old.rising, telling, steps)
+            .release(&mut self.region, old.rising, telling, steps)
     }
 
     /// Counts one owner more of each triple that comes and one less of each that goes; what has no owner left is no longer
     /// stored. After a fault every triple has the count that it had. Where none comes it takes no memory and always succeeds.
-    pub fn apply(&mut self, patch: &Patch) -> Result<(), StoreFault>
+    /// It takes at most 8 (d + 8) steps for each triple that comes and 3 (d + 8) for each that goes, where d is the number of binary digits
+    /// of the number of stored triples and those that come together.
+    pub fn apply<C: StepCounter>(&mut self, patch: &Patch, steps: &mut C) -> Result<(), StoreFault>
         requires may_come { MayCome self.old patch.now.adds }
         requires may_go { MayGo self.old patch.now.removes }
         ensures patched { IsPatched self.old self.new patch.now.removes patch.now.adds result }
         ensures rest { KeepsRest self.old self.new }
-    {
-        apply_by::<Brand>(self, patch, Blank::new(1))
-    }
-
-    /// The same, counting the steps in the index: at most 8 (d + 8) for each triple that comes and 3 (d + 8) for each that goes, where
-    /// d is the number of binary digits of the number of stored triples and those that come together.
-    pub fn apply_counting<L: Ledger>(
-        &mut self,
-        patch: &Patch,
-        steps: &mut Steps<L>,
-    ) -> Result<(), StoreFault>
-        requires may_come { MayCome self.old patch.now.adds }
-        requires may_go { MayGo self.old patch.now.removes }
-        ensures patched { IsPatched self.old self.new patch.now.removes patch.now.adds result }
-        ensures rest { KeepsRest self.old self.new }
-        ensures cost { Costs (map.len (counts_in self.old)) (map.len (counts_in self.new)) (length patch.now.adds) (length patch.now.adds + length patch.now.removes) steps.old steps.new }
+        ensures cost { Costs (map.len (counts_in self.old)) (map.len (counts_in self.new)) (length patch.now.adds) (length patch.now.adds + length patch.now.removes) (C.total steps.old) (C.total steps.new) }
     {
         self.catalog.apply(&mut self.region, patch, steps)
     }
 }
 
-fn exchange_by<L: Ledger>(
-    store: &mut Store,
-    old: KeySlices<'_>,
-    new: &TripleTexts,
-    blank: Blank,
-) -> Result<Keys, StoreFault>
-    requires may_come { MayCome store.old new.now }
-    requires stored { AreStored store.old old.rising.now }
-    requires name { blank.name ≡ L.name }
-    requires parts { blank.parts ≡ L.parts }
-    requires some { 0 < blank.parts }
-    ensures exchanged { IsExchange store.old store.new old.entry.rising.now new.now result }
-    ensures rest { KeepsRest store.old store.new }
+// Whether nothing is left and nothing comes.
+fn is_nothing(left: Left<'_>, new: &TripleTexts) -> bool
+    ensures none { IsTrue result → (left.entry.counts.now ≡ []) × (new.now ≡ []) }
+    ensures some { result ≡ false → left.entry.counts.now ≡ [] → new.now ≡ [] → ⊥ }
 {
-    store.exchange_counting(old, new, &mut Steps::<L>::new(blank))
-}
-
-fn exchange_with_by<L: Ledger>(
-    store: &mut Store,
-    old: KeySlices<'_>,
-    new: &TripleTexts,
-    telling: Telling,
-    blank: Blank,
-) -> Result<Exchange, StoreFault>
-    requires may_come { MayCome store.old new.now }
-    requires stored { AreStored store.old old.rising.now }
-    requires name { blank.name ≡ L.name }
-    requires parts { blank.parts ≡ L.parts }
-    requires some { 0 < blank.parts }
-    ensures exchanged { IsToldExchange telling store.old store.new old.entry.rising.now new.now result }
-    ensures rest { KeepsRest store.old store.new }
-{
-    store.exchange_with_counting(old, new, telling, &mut Steps::<L>::new(blank))
-}
-
-fn release_by<L: Ledger>(store: &mut Store, old: KeySlices<'_>, blank: Blank)
-    requires stored { AreStored store.old old.rising.now }
-    requires name { blank.name ≡ L.name }
-    requires parts { blank.parts ≡ L.parts }
-    requires some { 0 < blank.parts }
-    ensures released { IsRelease store.old store.new old.entry.rising.now }
-    ensures rest { KeepsRest store.old store.new }
-{
-    store.release_counting(old, &mut Steps::<L>::new(blank));
-}
-
-fn release_with_by<L: Ledger>(
-    store: &mut Store,
-    old: KeySlices<'_>,
-    telling: Telling,
-    blank: Blank,
-) -> Result<Option<Change>, OutOfMemory>
-    requires stored { AreStored store.old old.rising.now }
-    requires name { blank.name ≡ L.name }
-    requires parts { blank.parts ≡ L.parts }
-    requires some { 0 < blank.parts }
-    ensures released { IsToldRelease telling store.old store.new old.entry.rising.now result }
-    ensures rest { KeepsRest store.old store.new }
-{
-    store.release_with_counting(old, telling, &mut Steps::<L>::new(blank))
-}
-
-fn apply_by<L: Ledger>(store: &mut Store, patch: &Patch, blank: Blank) -> Result<(), StoreFault>
-    requires may_come { MayCome store.old patch.now.adds }
-    requires may_go { MayGo store.old patch.now.removes }
-    requires name { blank.name ≡ L.name }
-    requires parts { blank.parts ≡ L.parts }
-    requires some { 0 < blank.parts }
-    ensures patched { IsPatched store.old store.new patch.now.removes patch.now.adds result }
-    ensures rest { KeepsRest store.old store.new }
-{
-    store.apply_counting(patch, &mut Steps::<L>::new(blank))
+    left.counts.is_empty() && new.len() == 0
 }

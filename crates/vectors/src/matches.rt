@@ -14,7 +14,7 @@ use std::hash::RandomState;
 use std::process::Abort;
 use std::test::Fail;
 use triple_patch::Patch;
-use triple_store::Store;
+use triple_store::{Store, Uncounted};
 
 const TRIPLES: &str = "<Q1> <P1> \"a\"
 <Q2> <P1> \"a\"
@@ -77,7 +77,7 @@ fn store_of(alloc: Global, keys: RandomState, adds: TripleSet) -> Option<Store>
     };
     let removes = TripleSet::from_rising(List::new(alloc));
     let patch = Patch { adds, removes };
-    let applied = store.apply(&patch);
+    let applied = store.apply(&patch, &mut Uncounted);
     drop(patch);
     if applied.is_ok() {
         return Some(store);

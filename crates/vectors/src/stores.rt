@@ -13,7 +13,7 @@ use std::hash::RandomState;
 use std::process::Abort;
 use std::test::Fail;
 use triple_patch::Patch;
-use triple_store::{Store, StoreFault};
+use triple_store::{Store, StoreFault, Uncounted};
 
 // For a store of two terms at most: a triple gets an owner (`+`) or loses one (`-`), or gets one while the triple `<a> <b> <a>` loses
 // one in the same patch (`~`), or the store is full for it (`!`). Then how many owners it has, and how many triples are stored.
@@ -104,7 +104,7 @@ fn is_full_for(
     requires fit { HasFitAndShortTerms triple.now }
     requires there { (gone : TheTriple) → has triple_cmp gone removes ≡ true → 0 < count_of (counts_in store.old) gone }
 {
-    if store.owners(triple) == u64::MAX {
+    if store.owners(triple, &mut Uncounted) == u64::MAX {
         drop(removes);
         return None;
     }
@@ -113,7 +113,7 @@ fn is_full_for(
         return None;
     };
     let patch = Patch { adds, removes };
-    let applied = store.apply(&patch);
+    let applied = store.apply(&patch, &mut Uncounted);
     drop(patch);
     match applied {
         Ok(()) => Some(false),
@@ -127,7 +127,7 @@ fn is_full_beside(alloc: Global, store: &mut Store, triple: &Triple) -> Option<b
     requires { HasFitAndShortTerms triple.now }
 {
     let goes = triple_of(alloc, GOES)?;
-    if store.owners(&goes) == 0 {
+    if store.owners(&goes, &mut Uncounted) == 0 {
         drop(goes);
         return None;
     }
@@ -138,13 +138,13 @@ fn is_full_beside(alloc: Global, store: &mut Store, triple: &Triple) -> Option<b
 
 // Takes an owner from a triple that has one.
 fn lower(alloc: Global, store: &mut Store, triple: &Triple) -> Option<()> {
-    if store.owners(triple) == 0 {
+    if store.owners(triple, &mut Uncounted) == 0 {
         return None;
     }
     let removes = set_of(alloc, triple)?;
     let adds = TripleSet::from_rising(List::new(alloc));
     let patch = Patch { adds, removes };
-    let applied = store.apply(&patch);
+    let applied = store.apply(&patch, &mut Uncounted);
     drop(patch);
     applied.ok()
 }
@@ -176,7 +176,12 @@ fn check_counts(
 ) -> Result<(), Fail> {
     let (owners, triples) = halves(counts, " ")?;
     let want = (owners.parse::<u64>()?, triples.parse::<usize>()?);
-    check(rt, (store.owners(triple), store.triples()), want, step);
+    check(
+        rt,
+        (store.owners(triple, &mut Uncounted), store.triples()),
+        want,
+        step,
+    );
     Ok(())
 }
 

@@ -25,7 +25,7 @@ use Rattle.entity_rdf.proofs.Balance.{gone_part, kept_balance, part_within}
 use Rattle.entity_rdf.proofs.Counting.{counts_after}
 use Rattle.entity_rdf.proofs.PartFit.{come_fit}
 use Rattle.replay_model.specs.Records.{Bytes, Records}
-use Rattle.triple_store.specs.PartUpdates.{Becomes}
+use Rattle.triple_store.specs.Updates.{Becomes}
 use Rattle.world.specs.declared.comparing.ChangedTexts.{ChangedTexts}
 use Rattle.world.specs.declared.comparing.KnownPage.{KnownPage}
 use Rattle.world.specs.Compared.{AreChanged, AreTextsOfParts, HasEntity, IsChangeOfHeld, IsKnownPage}

@@ -22,17 +22,17 @@ use Rattle.replay_model.specs.Versions.{meaning_by, version_at}
 use Rattle.slot_keys.specs.declared.key.Key.{Key}
 use Rattle.slot_keys.specs.Keys.{key_cmp}
 use Rattle.term_pool.specs.Pool.{one_if}
-use Rattle.triple_store.specs.declared.part_updates.TimedExchange.{TimedExchange}
+use Rattle.triple_store.specs.declared.updates.Exchange.{Exchange}
 use Rattle.triple_store.specs.declared.telling.Telling.{Telling}
 use Rattle.triple_store.specs.Counts.{Exchanges, count_of}
-use Rattle.triple_store.specs.PartUpdates.{AreTimesIfKnown, AreTimesOf, Becomes, HasExchanged}
+use Rattle.triple_store.specs.Updates.{AreLeft, AreTimesIfKnown, AreTimesOf, ComesTo, HasExchanged, KeepsRest}
 use Rattle.triple_store.specs.Room.{room_for}
 use Rattle.triple_store.specs.StoreState.{AreKeysOf, HasKey, IsSound, KeepsKeys, StoreState, beside, counts_in, limit_of}
-use Rattle.triple_store.specs.Telling.{TellsIf}
-use Rattle.triple_store.specs.Updates.{KeepsRest}
+use Rattle.triple_store.proofs.Becoming.{comes_parted}
 use Rattle.triple_store.proofs.Exchanged.{same_test}
 use Rattle.triple_store.proofs.Lasting.{no_times_known, times_last_if_known}
 use Rattle.triple_store.proofs.Live.{tells}
+use Rattle.triple_store.proofs.Whole.{IsWhole}
 use Rattle.world.specs.declared.comparing.ChangedPage.{ChangedPage}
 use Rattle.world.specs.declared.comparing.ChangedTexts.{ChangedTexts}
 use Rattle.world.specs.declared.comparing.KnownPage.{KnownPage}
@@ -83,27 +83,23 @@ module _ (telling : Telling) (old new : StoreState) (gone : List Key) (wanted : 
   whole_room triples counts texts = room_same (counts_in old) triples (wanted_meaning wanted bytes) (texts_meant triples counts texts)
 
   -- all triples of the page came
-  pub whole_swapped : (triples : List Triple) (counts : Option PageCounts) (done : TimedExchange) (swapped : PageExchange)
+  pub whole_swapped : (triples : List Triple) (counts : Option PageCounts) (done : Exchange) (swapped : PageExchange)
       → AreTextsOf wanted.version wanted.id wanted.rev bytes counts triples
-      → ((had : List Triple) → AreKeysOf old gone had → Exchanges (counts_in old) (counts_in new) had triples)
-      → TellsIf telling (counts_in old) (counts_in new) done.change
-      → AreKeysOf new done.keys.rising.items triples
-      → AreTimesIfKnown new done.keys.rising.items done.times.items triples
-      → room_for (counts_in old) triples ≤ limit_of old
+      → IsWhole telling old new gone triples done
       → swapped ≡ with_counts counts done
       → HasSwapped telling old new gone wanted bytes swapped
-  whole_swapped triples counts done swapped texts exchanges told keyed times within is = subst (HasSwapped telling old new gone wanted bytes) (sym is) (record {
-    counts = λ had h. record { counts = λ t. (exchanges had h).counts t ∙ ap (λ b. count_of (counts_in old) t + one_if b) (texts_meant triples counts texts t) };
-    told = told;
-    keys_are = keys_same new done.keys.rising.items triples (wanted_meaning wanted bytes) (texts_meant triples counts texts) keyed;
+  whole_swapped triples counts done swapped texts whole is = subst (HasSwapped telling old new gone wanted bytes) (sym is) (record {
+    counts = λ had h. record { counts = λ t. (whole.counts had h).counts t ∙ ap (λ b. count_of (counts_in old) t + one_if b) (texts_meant triples counts texts t) };
+    told = whole.told;
+    keys_are = keys_same new done.keys.rising.items triples (wanted_meaning wanted bytes) (texts_meant triples counts texts) whole.keys_are;
     timed = by counts texts.listed;
-    within = subst (λ n. n ≤ limit_of old) (whole_room triples counts texts) within;
+    within = subst (λ n. n ≤ limit_of old) (whole_room triples counts texts) whole.within;
   })
     where
       by : (counts : Option PageCounts) → IfSome counts (λ c. IsListed wanted.version wanted.id wanted.rev (document_of wanted.id bytes) c triples)
           → IfSome (with_counts counts done).times (IsTimed wanted.version new wanted.id wanted.rev bytes done.keys.rising.items)
       by None listed = tt
-      by (Some c) listed = record { triples = triples; listed = listed; times_are = times }
+      by (Some c) listed = record { triples = triples; listed = listed; times_are = whole.times }
 
   module _ (old_rev : ℕ) (was : Entity) (texts : ChangedTexts) (h : AreChanged wanted.version wanted.id old_rev wanted.rev was bytes texts) where
     abbrev before : List Triple
@@ -122,7 +118,7 @@ module _ (telling : Telling) (old new : StoreState) (gone : List Key) (wanted : 
     parts_room = room_same (counts_in old) after (wanted_meaning wanted bytes) after_meant
 
     -- the triples that the page changes came and went
-    parts_moved : (times : List ℕ) (done : TimedExchange) → AreTimesOf old gone times before → HasExchanged telling old new before after done
+    parts_moved : (times : List ℕ) (done : Exchange) → AreTimesOf old gone times before → HasExchanged telling old new before after done
         → HasSwapped telling old new gone wanted bytes (with_counts (Some texts.counts) done)
     parts_moved times done its moved = record {
       counts = λ triples k. exchanged_for old new gone before triples after (wanted_meaning wanted bytes) its.keys_of k after_meant moved.counts;
@@ -133,23 +129,27 @@ module _ (telling : Telling) (old new : StoreState) (gone : List Key) (wanted : 
     }
 
 -- what came and went by parts, where the times are known
-pub parts_swapped : (telling : Telling) (old new : StoreState) (gone : List Key) (times : List ℕ) (wanted : Wanted) (page : ChangedPage) (done : TimedExchange) (swapped : PageExchange)
-    → MaySwapParts old gone times wanted page → 0 < length times
-    → ((before after : List Triple) → AreTimesOf old gone times before → Becomes before after page.texts.gone page.texts.come → HasExchanged telling old new before after done)
-    → swapped ≡ with_counts (Some page.texts.counts) done
-    → HasSwapped telling old new gone wanted page.bytes swapped
-parts_swapped telling old new gone times wanted page done swapped h some moved is =
-    subst (HasSwapped telling old new gone wanted page.bytes) (sym is)
-    (parts_moved telling old new gone wanted page.bytes h.old_rev h.old page.texts h.changed times done (h.times_are some)
-    (moved (kept_list wanted.version wanted.id h.old_rev h.old) (kept_list wanted.version wanted.id wanted.rev h.changed.new) (h.times_are some) h.changed.becomes))
+module _ (telling : Telling) (old new : StoreState) (gone : List Key) (times left : List ℕ) (wanted : Wanted) (page : ChangedPage) (h : MaySwapParts old gone times wanted page)
+    (less : AreLeft old gone times left page.texts.gone) (some : 0 < length left) where
+  told : 0 < length times
+  told = omega (arith, less.as_many, some)
 
--- and where there is no room
-pub parts_over : (telling : Telling) (old new : StoreState) (gone : List Key) (times : List ℕ) (wanted : Wanted) (page : ChangedPage) → MaySwapParts old gone times wanted page → 0 < length times
-    → ((before after : List Triple) → AreTimesOf old gone times before → Becomes before after page.texts.gone page.texts.come → limit_of old < room_for (counts_in old) after)
-    → limit_of old < room_for (counts_in old) (wanted_meaning wanted page.bytes)
-parts_over telling old new gone times wanted page h some over =
-    subst (λ n. limit_of old < n) (parts_room telling old new gone wanted page.bytes h.old_rev h.old page.texts h.changed)
-    (over (kept_list wanted.version wanted.id h.old_rev h.old) (kept_list wanted.version wanted.id wanted.rev h.changed.new) (h.times_are some) h.changed.becomes)
+  comes : ComesTo old gone left page.texts.come (kept_list wanted.version wanted.id h.old_rev h.old) (kept_list wanted.version wanted.id wanted.rev h.changed.new)
+  comes = comes_parted old.catalog old.texts gone times left (kept_list wanted.version wanted.id h.old_rev h.old) (kept_list wanted.version wanted.id wanted.rev h.changed.new) page.texts.gone page.texts.come (h.times_are told) less h.changed.becomes
+
+  pub parts_swapped : (done : Exchange) (swapped : PageExchange)
+      → ((before after : List Triple) → ComesTo old gone left page.texts.come before after → HasExchanged telling old new before after done)
+      → swapped ≡ with_counts (Some page.texts.counts) done
+      → HasSwapped telling old new gone wanted page.bytes swapped
+  parts_swapped done swapped moved is =
+      subst (HasSwapped telling old new gone wanted page.bytes) (sym is)
+      (parts_moved telling old new gone wanted page.bytes h.old_rev h.old page.texts h.changed times done (h.times_are told) (moved _ _ comes))
+
+  -- and where there is no room
+  pub parts_over : ((before after : List Triple) → ComesTo old gone left page.texts.come before after → limit_of old < room_for (counts_in old) after)
+      → limit_of old < room_for (counts_in old) (wanted_meaning wanted page.bytes)
+  parts_over over =
+      subst (λ n. limit_of old < n) (parts_room telling old new gone wanted page.bytes h.old_rev h.old page.texts h.changed) (over _ _ comes)
 
 -- a store that stays as it is keeps all
 pub rest_same : (s : StoreState) → IsSound s → KeepsRest s s

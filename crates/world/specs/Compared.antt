@@ -15,7 +15,7 @@ use Rattle.entity_rdf.specs.Counted.{counted_kept}
 use Rattle.entity_state.specs.declared.record.Held.{Held}
 use Rattle.replay_model.specs.Records.{Bytes, Records, record_of}
 use Rattle.replay_model.specs.Versions.{version_at}
-use Rattle.triple_store.specs.PartUpdates.{Becomes}
+use Rattle.triple_store.specs.Updates.{Becomes}
 use Rattle.world.specs.declared.comparing.ChangedTexts.{ChangedTexts}
 use Rattle.world.specs.declared.comparing.KnownPage.{KnownPage}
 

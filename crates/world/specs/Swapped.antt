@@ -1,5 +1,5 @@
 -- The triples of a page come in the place of those that its entity had.
-use Rattle.std.specs.Prelude.{◌≡◌, ℕ, ◌<◌, ◌≤◌, List, Option, Result, Err, IfNone, IfOk, IfSome, OnErr, option_map}
+use Rattle.std.specs.Prelude.{◌≡◌, ℕ, ◌<◌, ◌≤◌, List, Option, Result, Err, IfOk, IfSome, OnErr, option_map}
 use Rattle.rdf_term.specs.declared.triple.Triple.{Triple}
 use Rattle.entity_model.specs.declared.entity.Entity.{Entity}
 use Rattle.page_rdf.specs.declared.counts.Counts.{Counts}
@@ -8,10 +8,10 @@ use Rattle.replay_model.specs.Records.{Bytes}
 use Rattle.slot_keys.specs.declared.key.Key.{Key}
 use Rattle.term_pool.specs.declared.fault.PoolFault.{PoolFault}
 use Rattle.term_pool.specs.declared.fault.PoolFault.TheVariants.{Full}
-use Rattle.triple_store.specs.declared.part_updates.TimedExchange.{TimedExchange}
+use Rattle.triple_store.specs.declared.updates.Exchange.{Exchange}
 use Rattle.triple_store.specs.declared.telling.Telling.{Telling}
 use Rattle.triple_store.specs.Counts.{Exchanges}
-use Rattle.triple_store.specs.PartUpdates.{AreTimesIfKnown}
+use Rattle.triple_store.specs.Updates.{AreTimesIfKnown}
 use Rattle.triple_store.specs.Room.{room_for}
 use Rattle.triple_store.specs.StoreState.{AreKeysOf, StoreState, counts_in, limit_of}
 use Rattle.triple_store.specs.Telling.{TellsIf}
@@ -39,7 +39,7 @@ MaySwap store keys times wanted (Whole page) = IsPageOf wanted.version wanted.id
 MaySwap store keys times wanted (Changed page) = MaySwapParts store keys times wanted page
 
 -- what an exchange gives, with the counts of the page, if it has some: without these nothing is known of the times
-abbrev pub with_counts : Option Counts → TimedExchange → PageExchange
+abbrev pub with_counts : Option Counts → Exchange → PageExchange
 with_counts counts done = record {
   keys = done.keys;
   times = option_map (λ (c : Counts). record { counts = c; times = done.times }) counts;
@@ -61,12 +61,5 @@ pub record HasSwapped (telling : Telling) (old new : StoreState) (gone : List Ke
 -- so it is, or a fault changed no count. `Full` is said where there is no room for the triples
 pub record IsPageExchange (telling : Telling) (old new : StoreState) (gone : List Key) (wanted : Wanted) (bytes : Bytes) (result : Result PageExchange PoolFault) : Type 0 where
   pub done : IfOk result (HasSwapped telling old new gone wanted bytes)
-  pub err : OnErr result (counts_in new ≡ counts_in old)
-  pub full : result ≡ Err Full → limit_of old < room_for (counts_in old) (wanted_meaning wanted bytes)
-
--- so it is, or nothing was done
-pub record IsPageExchangeIfDone (telling : Telling) (old new : StoreState) (gone : List Key) (wanted : Wanted) (bytes : Bytes) (result : Result (Option PageExchange) PoolFault) : Type 0 where
-  pub done : IfOk result (λ done. IfSome done (HasSwapped telling old new gone wanted bytes))
-  pub none : IfOk result (λ done. IfNone done (new ≡ old))
   pub err : OnErr result (counts_in new ≡ counts_in old)
   pub full : result ≡ Err Full → limit_of old < room_for (counts_in old) (wanted_meaning wanted bytes)

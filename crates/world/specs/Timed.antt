@@ -9,7 +9,7 @@ use Rattle.entity_state.specs.declared.record.Held.{Held}
 use Rattle.replay_model.specs.Records.{Bytes}
 use Rattle.replay_model.specs.Versions.{version_at}
 use Rattle.slot_keys.specs.declared.key.Key.{Key}
-use Rattle.triple_store.specs.PartUpdates.{AreTimesIfKnown}
+use Rattle.triple_store.specs.Updates.{AreTimesIfKnown}
 use Rattle.triple_store.specs.StoreState.{StoreState, beside}
 use Rattle.world.specs.declared.kept.Kept.{Kept}
 use Rattle.world.specs.declared.kept.PageTimes.{PageTimes}

@@ -22,7 +22,7 @@ use crate::swapping::{PageExchange, SwapSetting, exchange_page};
 use entity_model::{EntityId, MappingVersion};
 use entity_state::{Held, Mode, Record, Standing, Table};
 use rdf_term::OutOfMemory;
-use triple_store::{Change, Store, StoreFault, Telling};
+use triple_store::{Change, Store, StoreFault, Telling, Uncounted};
 
 impl Holdings {
     /// Sets the record of an entity, which holds this page from now on, by the version that it is mapped by, and tells the change of the
@@ -186,7 +186,9 @@ impl Holdings {
         ensures holders { AreHolders self.new.by_two self.new.records }
     {
         make_room(&mut self.table, id)?;
-        let change = self.store.release_with(keys_of(&self.table, id), telling)?;
+        let change = self
+            .store
+            .release(keys_of(&self.table, id), telling, &mut Uncounted)?;
         replace(&mut self.store, &mut self.table, id, after, None);
         self.holders.remove(id, MappingVersion::One);
         self.holders.remove(id, MappingVersion::Two);

@@ -21,7 +21,7 @@ use entity_model::{EntityId, MappingVersion};
 use entity_state::{Held, Record, Table};
 use rdf_term::OutOfMemory;
 use std::alloc::Global;
-use triple_store::{Exchange, Keys, Store, StoreFault, Telling};
+use triple_store::{Exchange, Keys, Left, Store, StoreFault, Telling, Uncounted};
 use triple_texts::TripleTexts;
 
 impl Holdings {
@@ -58,11 +58,19 @@ impl Holdings {
             drop(triples);
             return Err(StoreFault::OutOfMemory);
         };
-        match self
-            .store
-            .exchange_with(keys_of(&self.table, id), &triples, telling)
-        {
-            Ok(Exchange { keys, change }) => {
+        let left = Left {
+            keys: keys_of(&self.table, id),
+            counts: &[],
+        };
+        match self.store.exchange(left, &triples, telling, &mut Uncounted) {
+            Ok(
+                Exchange {
+                    keys,
+                    times,
+                    change,
+                },
+            ) => {
+                drop(times);
                 set_keys(&mut self.table, id, keys);
                 self.holders.remove(id, other(version));
                 Ok(Remapped { change, triples })

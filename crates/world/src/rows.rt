@@ -11,7 +11,7 @@ use crate::kept::keys_of;
 use crate::world::World;
 use entity_model::EntityId;
 use rdf_term::{OutOfMemory, Pattern, Triple, TripleSet};
-use triple_store::Rows;
+use triple_store::{Rows, Uncounted};
 
 impl World {
     /// The triples of all that is held. Their terms are fit and short.
@@ -96,7 +96,7 @@ impl Holdings {
     pub fn owners(&self, triple: &Triple) -> u64
         ensures { result ≡ owners triple_cmp (meaning_by meaning self.now.by_two) self.now.records triple.now }
     {
-        self.store.owners(triple)
+        self.store.owners(triple, &mut Uncounted)
     }
 
     // The triples of all that is held.
@@ -110,13 +110,13 @@ impl Holdings {
     pub(crate) fn matching(&self, pattern: &Pattern) -> Result<Rows<'_>, OutOfMemory>
         ensures { IfOk result (λ found. found ≡ rows (union triple_cmp (meaning_by meaning self.now.by_two) self.now.records) pattern.now) }
     {
-        self.store.matching(pattern)
+        self.store.matching(pattern, &mut Uncounted)
     }
 
     // How many of them agree with the pattern.
     pub(crate) fn matching_len(&self, pattern: &Pattern) -> usize
         ensures { result ≡ length (rows (union triple_cmp (meaning_by meaning self.now.by_two) self.now.records) pattern.now) }
     {
-        self.store.matching_len(pattern)
+        self.store.matching_len(pattern, &mut Uncounted)
     }
 }

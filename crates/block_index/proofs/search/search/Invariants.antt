@@ -8,7 +8,7 @@ invariant-loop-low g l =
     (l.fn.start ≤ l.low) × (l.low ≤ l.high) × (l.high ≤ length l.keys)
     × IsAfter g.K.Ranked.cmp l.key l.keys l.low
     × IsBefore g.K.Ranked.cmp l.key l.keys l.high
-    × Left (length l.keys - l.fn.start) l.initial.steps l.steps (l.high - l.low)
+    × Left (length l.keys - l.fn.start) (g.C.StepCounter.total l.initial.steps) (g.C.StepCounter.total l.steps) (l.high - l.low)
 
 abbrev pub decreases-loop-low : goal.decreases-loop-low
 decreases-loop-low g l = l.high - l.low

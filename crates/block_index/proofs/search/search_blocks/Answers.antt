@@ -23,8 +23,7 @@ loop-low-preserved-in-Less g c =
       omega arith,
       inv.3,
       before_block g.K.Ranked.cmp c.args.key.now c.args.blocks.now (c.loop-low.low + (c.loop-low.high - c.loop-low.low) / 2) c.index-blocks-middle.result c.first.result.now (omega arith) c.index-blocks-middle.is c.first.ensures (sym c.in-Less.ensures.value),
-      subst (λ now. Left (length c.args.blocks.now - c.args.start) c.args.steps.now now (c.loop-low.low + (c.loop-low.high - c.loop-low.low) / 2 - c.loop-low.low)) (sym c.rank.ensures.step)
-          (left_down (length c.args.blocks.now - c.args.start) c.args.steps.now c.loop-low.steps c.loop-low.low c.loop-low.high some inv.5),
+      left_down (length c.args.blocks.now - c.args.start) (g.C.StepCounter.total c.args.steps.now) (g.C.StepCounter.total c.loop-low.steps) (g.C.StepCounter.total c.rank.new.steps) c.loop-low.low c.loop-low.high some c.rank.ensures.forward c.rank.ensures.step inv.5,
     )
 
 pub loop-low-preserved : goal.loop-low-preserved
@@ -38,6 +37,5 @@ loop-low-preserved g c =
       inv.2,
       after_block g.K.Ranked.cmp c.args.key.now c.args.blocks.now (c.loop-low.low + (c.loop-low.high - c.loop-low.low) / 2) c.index-blocks-middle.result c.first.result.now (omega arith) c.index-blocks-middle.is c.first.ensures (sym c.in-Greater.ensures.value),
       inv.4,
-      subst (λ now. Left (length c.args.blocks.now - c.args.start) c.args.steps.now now (c.loop-low.high - (c.loop-low.low + (c.loop-low.high - c.loop-low.low) / 2 + 1))) (sym c.rank.ensures.step)
-          (left_up (length c.args.blocks.now - c.args.start) c.args.steps.now c.loop-low.steps c.loop-low.low c.loop-low.high some inv.5),
+      left_up (length c.args.blocks.now - c.args.start) (g.C.StepCounter.total c.args.steps.now) (g.C.StepCounter.total c.loop-low.steps) (g.C.StepCounter.total c.rank.new.steps) c.loop-low.low c.loop-low.high some c.rank.ensures.forward c.rank.ensures.step inv.5,
     )

@@ -36,8 +36,7 @@ loop-low-preserved-in-Less g c =
       omega arith,
       inv.2,
       before_group g.K.Ranked.cmp c.args.key.now c.args.groups.now m c.index-groups-middle.result c.first.result.now (omega arith) c.requires.some c.requires.filled c.index-groups-middle.is c.first.ensures (sym c.in-Less.ensures.value),
-      subst (λ now. Left (length c.args.groups.now) c.args.steps.now now (m - c.loop-low.low)) (sym c.rank.ensures.step)
-          (left_down (length c.args.groups.now) c.args.steps.now c.loop-low.steps c.loop-low.low c.loop-low.high some inv.4),
+      left_down (length c.args.groups.now) (g.C.StepCounter.total c.args.steps.now) (g.C.StepCounter.total c.loop-low.steps) (g.C.StepCounter.total c.rank.new.steps) c.loop-low.low c.loop-low.high some c.rank.ensures.forward c.rank.ensures.step inv.4,
     )
 
 pub loop-low-preserved : goal.loop-low-preserved
@@ -50,8 +49,7 @@ loop-low-preserved g c =
       inv.1,
       after_group g.K.Ranked.cmp c.args.key.now c.args.groups.now m c.index-groups-middle.result c.first.result.now (omega arith) c.requires.some c.requires.filled c.index-groups-middle.is c.first.ensures (sym c.in-Greater.ensures.value),
       inv.3,
-      subst (λ now. Left (length c.args.groups.now) c.args.steps.now now (c.loop-low.high - (m + 1))) (sym c.rank.ensures.step)
-          (left_up (length c.args.groups.now) c.args.steps.now c.loop-low.steps c.loop-low.low c.loop-low.high some inv.4),
+      left_up (length c.args.groups.now) (g.C.StepCounter.total c.args.steps.now) (g.C.StepCounter.total c.loop-low.steps) (g.C.StepCounter.total c.rank.new.steps) c.loop-low.low c.loop-low.high some c.rank.ensures.forward c.rank.ensures.step inv.4,
     )
 
 pub returns-in-Equal-clause-ends : goal.returns-in-Equal-clause-ends

@@ -9,7 +9,7 @@ invariant-loop-low g l =
     (l.low ≤ l.high) × (l.high ≤ length l.groups)
     × IsAfterBlock g.K.Ranked.cmp l.key (map keys_of l.groups) l.low
     × IsBeforeBlock g.K.Ranked.cmp l.key (map keys_of l.groups) l.high
-    × Left (length l.groups) l.initial.steps l.steps (l.high - l.low)
+    × Left (length l.groups) (g.C.StepCounter.total l.initial.steps) (g.C.StepCounter.total l.steps) (l.high - l.low)
 
 abbrev pub decreases-loop-low : goal.decreases-loop-low
 decreases-loop-low g l = l.high - l.low

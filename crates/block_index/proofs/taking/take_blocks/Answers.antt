@@ -34,6 +34,6 @@ returns-in_err-take_keys-clause-refused g c =
     let within : i < length blocks = c.loop-block-test.true in
     let others = keys_of (drop (suc i) blocks) in
     let is = c.keys.ensures ∙ get_or_read blocks i c.block-item.result within c.block-item.is [] in
-    let few = subst (λ b. c.take_keys.new.steps ≤ c.loop-block.steps + length (up_to R c.args.to.now b)) is c.in_err-take_keys.ensures.refused in
-    let all = subst (λ bs. c.take_keys.new.steps ≤ c.loop-block.steps + length (up_to R c.args.to.now (keys_of bs))) (sym (drop-cons blocks i [] within)) (refused_first R c.args.to.now (get_or blocks i []) others _ _ few) in
-    anyway _ (refused_left R c.args.to.now (keys_of blocks) (keys_of (drop i blocks)) c.args.taken.now.items c.loop-block.taken.items c.args.steps.now c.loop-block.steps _ c.loop-block.invariant.0 c.loop-block.invariant.1 all)
+    let few = subst (λ b. (g.C.StepCounter.total c.take_keys.new.steps) ≤ (g.C.StepCounter.total c.loop-block.steps) + length (up_to R c.args.to.now b)) is c.in_err-take_keys.ensures.refused in
+    let all = subst (λ bs. (g.C.StepCounter.total c.take_keys.new.steps) ≤ (g.C.StepCounter.total c.loop-block.steps) + length (up_to R c.args.to.now (keys_of bs))) (sym (drop-cons blocks i [] within)) (refused_first R c.args.to.now (get_or blocks i []) others _ _ few) in
+    anyway _ (refused_left R c.args.to.now (keys_of blocks) (keys_of (drop i blocks)) c.args.taken.now.items c.loop-block.taken.items (g.C.StepCounter.total c.args.steps.now) (g.C.StepCounter.total c.loop-block.steps) _ c.loop-block.invariant.0 c.loop-block.invariant.1 all)

@@ -6,5 +6,5 @@ use Rattle.block_index.proofs.taking.take_blocks.Given as goal
 abbrev pub invariant-loop-block : goal.invariant-loop-block
 invariant-loop-block g l =
     ((rest : List _) → l.initial.taken.items ++ up_to g.K.Ranked.cmp l.to (keys_of l.blocks ++ rest) ≡ l.taken.items ++ up_to g.K.Ranked.cmp l.to (keys_of (drop l.block-index l.blocks) ++ rest))
-    × (l.steps + length l.initial.taken.items ≡ l.initial.steps + length l.taken.items)
-    × (l.initial.steps ≤ l.steps)
+    × ((g.C.StepCounter.total l.steps) + length l.initial.taken.items ≤ (g.C.StepCounter.total l.initial.steps) + length l.taken.items)
+    × ((g.C.StepCounter.total l.initial.steps) ≤ (g.C.StepCounter.total l.steps))

@@ -46,8 +46,8 @@ returns-in_err-take_within-clause-refused g c =
     let p = c.args.position in
     let R = g.K.Ranked.cmp in
     let is = c.blocks-blocks.ensures ∙ get_or_read gs p.group c.index-groups-position.result c.requires.inside.0 c.index-groups-position.is [] in
-    let few = subst (λ bs. c.take_within.new.steps ≤ c.args.steps.now + length (up_to R c.args.to.now (keys_from bs p.block p.at))) is c.in_err-take_within.ensures.refused in
-    anyway _ (subst (λ ks. c.take_within.new.steps ≤ c.args.steps.now + length (up_to R c.args.to.now ks)) (sym (from_is gs p.group p.block p.at c.requires.inside.0 c.requires.inside.1))
+    let few = subst (λ bs. (g.C.StepCounter.total c.take_within.new.steps) ≤ (g.C.StepCounter.total c.args.steps.now) + length (up_to R c.args.to.now (keys_from bs p.block p.at))) is c.in_err-take_within.ensures.refused in
+    anyway _ (subst (λ ks. (g.C.StepCounter.total c.take_within.new.steps) ≤ (g.C.StepCounter.total c.args.steps.now) + length (up_to R c.args.to.now ks)) (sym (from_is gs p.group p.block p.at c.requires.inside.0 c.requires.inside.1))
     (refused_first R c.args.to.now (keys_from (get_or gs p.group []) p.block p.at) (keys_of (keys_of (drop (suc p.group) gs))) _ _ few))
 
 pub returns-in_err-more-clause-refused : goal.returns-in_err-more-clause-refused
@@ -57,8 +57,8 @@ returns-in_err-more-clause-refused g c =
     let R = g.K.Ranked.cmp in
     let is = c.blocks-blocks.ensures ∙ get_or_read gs p.group c.index-groups-position.result c.requires.inside.0 c.index-groups-position.is [] in
     let rest = ap (λ hs. keys_of (map keys_of hs)) (take_rest gs (p.group + 1) ∙ ap (λ j. drop j gs) (add-one p.group)) ∙ keys_mapped (drop (suc p.group) gs) in
-    let few = subst (λ ks. c.take_groups.new.steps ≤ c.take_within.new.steps + length (up_to R c.args.to.now ks)) rest c.in_err-more.ensures.refused in
-    anyway _ (subst (λ ks. c.take_groups.new.steps ≤ c.args.steps.now + length (up_to R c.args.to.now ks)) (sym (from_is gs p.group p.block p.at c.requires.inside.0 c.requires.inside.1))
-    (refused_second R c.args.to.now (keys_from (get_or gs p.group []) p.block p.at) (keys_of (keys_of (drop (suc p.group) gs))) c.args.taken.now.items c.take_within.new.taken.items c.in_ok-take_within.field-0 _ c.take_within.new.steps _ c.if-not-branch.false
+    let few = subst (λ ks. (g.C.StepCounter.total c.take_groups.new.steps) ≤ (g.C.StepCounter.total c.take_within.new.steps) + length (up_to R c.args.to.now ks)) rest c.in_err-more.ensures.refused in
+    anyway _ (subst (λ ks. (g.C.StepCounter.total c.take_groups.new.steps) ≤ (g.C.StepCounter.total c.args.steps.now) + length (up_to R c.args.to.now ks)) (sym (from_is gs p.group p.block p.at c.requires.inside.0 c.requires.inside.1))
+    (refused_second R c.args.to.now (keys_from (get_or gs p.group []) p.block p.at) (keys_of (keys_of (drop (suc p.group) gs))) c.args.taken.now.items c.take_within.new.taken.items c.in_ok-take_within.field-0 _ (g.C.StepCounter.total c.take_within.new.steps) _ c.if-not-branch.false
     (takes_same R c.args.to.now _ _ c.args.taken.now.items c.take_within.new.taken.items c.in_ok-take_within.field-0 (ap (λ bs. keys_from bs p.block p.at) is) c.in_ok-take_within.ensures.takes)
     c.in_ok-take_within.ensures.cost few))

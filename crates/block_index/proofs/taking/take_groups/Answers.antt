@@ -35,6 +35,6 @@ returns-in_err-take_blocks-clause-refused g c =
     let within : i < length gs = c.loop-group-test.true in
     let others = keys_of (map keys_of (drop (suc i) gs)) in
     let is = c.blocks-in-loop-group.ensures ∙ get_or_read gs i c.group-item.result within c.group-item.is [] in
-    let few = subst (λ bs. c.take_blocks.new.steps ≤ c.loop-group.steps + length (up_to R to (keys_of bs))) is c.in_err-take_blocks.ensures.refused in
-    let all = subst (λ hs. c.take_blocks.new.steps ≤ c.loop-group.steps + length (up_to R to (keys_of (map keys_of hs)))) (sym (drop-cons gs i [] within)) (refused_first R to (keys_of (get_or gs i [])) others _ _ few) in
-    anyway _ (refused_left R to (keys_of (map keys_of gs)) (keys_of (map keys_of (drop i gs))) c.args.taken.now.items c.loop-group.taken.items c.args.steps.now c.loop-group.steps _ c.loop-group.invariant.0 c.loop-group.invariant.1 all)
+    let few = subst (λ bs. (g.C.StepCounter.total c.take_blocks.new.steps) ≤ (g.C.StepCounter.total c.loop-group.steps) + length (up_to R to (keys_of bs))) is c.in_err-take_blocks.ensures.refused in
+    let all = subst (λ hs. (g.C.StepCounter.total c.take_blocks.new.steps) ≤ (g.C.StepCounter.total c.loop-group.steps) + length (up_to R to (keys_of (map keys_of hs)))) (sym (drop-cons gs i [] within)) (refused_first R to (keys_of (get_or gs i [])) others _ _ few) in
+    anyway _ (refused_left R to (keys_of (map keys_of gs)) (keys_of (map keys_of (drop i gs))) c.args.taken.now.items c.loop-group.taken.items (g.C.StepCounter.total c.args.steps.now) (g.C.StepCounter.total c.loop-group.steps) _ c.loop-group.invariant.0 c.loop-group.invariant.1 all)

@@ -50,7 +50,7 @@ loop-key-preserved g c =
           ∙ sym (append_assoc taken (x ∷ []) (up_to R to (left ++ rest)))
           ∙ ap (λ l. l ++ up_to R to (left ++ rest)) (sym c.in_ok-push.ensures.items),
       omega (arith, more, c.rank.ensures.step),
-      omega (arith, c.rank.ensures.step),
+      omega (arith, c.rank.ensures.forward),
     )
 
 pub returns-in_err-push-clause-refused : goal.returns-in_err-push-clause-refused
@@ -63,4 +63,4 @@ returns-in_err-push-clause-refused g c =
     let cut = drop-cons keys i x within ∙ ap (λ y. y ∷ rest) (sym c.key-item.is) in
     let some = subst (λ l. 1 ≤ length (up_to g.K.Ranked.cmp c.args.to.now l)) (sym cut) (one_up_to g.K.Ranked.cmp c.args.to.now x rest (search rules)) in
     anyway _
-    (refused_left g.K.Ranked.cmp c.args.to.now keys (drop i keys) c.args.taken.now.items c.loop-key.taken.items c.args.steps.now c.loop-key.steps c.rank.new.steps c.loop-key.invariant.0 c.loop-key.invariant.1 (omega arith))
+    (refused_left g.K.Ranked.cmp c.args.to.now keys (drop i keys) c.args.taken.now.items c.loop-key.taken.items (g.C.StepCounter.total c.args.steps.now) (g.C.StepCounter.total c.loop-key.steps) (g.C.StepCounter.total c.rank.new.steps) c.loop-key.invariant.0 c.loop-key.invariant.1 (omega arith))

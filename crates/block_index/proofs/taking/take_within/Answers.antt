@@ -33,7 +33,7 @@ returns-in_err-take_keys-clause-refused g c =
     let at = c.args.position.at in
     let R = g.K.Ranked.cmp in
     let is = c.keys-first.ensures ∙ get_or_read blocks b c.index-blocks-position.result c.requires.inside c.index-blocks-position.is [] in
-    let few = subst (λ ks. c.take_keys.new.steps ≤ c.args.steps.now + length (up_to R c.args.to.now ks)) (take_rest c.keys-first.result.now at ∙ ap (drop at) is) c.in_err-take_keys.ensures.refused in
+    let few = subst (λ ks. (g.C.StepCounter.total c.take_keys.new.steps) ≤ (g.C.StepCounter.total c.args.steps.now) + length (up_to R c.args.to.now ks)) (take_rest c.keys-first.result.now at ∙ ap (drop at) is) c.in_err-take_keys.ensures.refused in
     anyway _ (refused_first R c.args.to.now (drop at (get_or blocks b [])) (keys_of (drop (suc b) blocks)) _ _ few)
 
 pub returns-in_err-more-clause-refused : goal.returns-in_err-more-clause-refused
@@ -43,7 +43,7 @@ returns-in_err-more-clause-refused g c =
     let at = c.args.position.at in
     let R = g.K.Ranked.cmp in
     let is = c.keys-first.ensures ∙ get_or_read blocks b c.index-blocks-position.result c.requires.inside c.index-blocks-position.is [] in
-    let few = subst (λ bs. c.take_blocks.new.steps ≤ c.take_keys.new.steps + length (up_to R c.args.to.now (keys_of bs))) (take_rest blocks (b + 1) ∙ ap (λ j. drop j blocks) (add-one b)) c.in_err-more.ensures.refused in
-    anyway _ (refused_second R c.args.to.now (drop at (get_or blocks b [])) (keys_of (drop (suc b) blocks)) c.args.taken.now.items c.take_keys.new.taken.items c.in_ok-take_keys.field-0 _ c.take_keys.new.steps _ c.if-not-branch.false
+    let few = subst (λ bs. (g.C.StepCounter.total c.take_blocks.new.steps) ≤ (g.C.StepCounter.total c.take_keys.new.steps) + length (up_to R c.args.to.now (keys_of bs))) (take_rest blocks (b + 1) ∙ ap (λ j. drop j blocks) (add-one b)) c.in_err-more.ensures.refused in
+    anyway _ (refused_second R c.args.to.now (drop at (get_or blocks b [])) (keys_of (drop (suc b) blocks)) c.args.taken.now.items c.take_keys.new.taken.items c.in_ok-take_keys.field-0 _ (g.C.StepCounter.total c.take_keys.new.steps) _ c.if-not-branch.false
     (takes_same R c.args.to.now _ _ c.args.taken.now.items c.take_keys.new.taken.items c.in_ok-take_keys.field-0 (take_rest c.keys-first.result.now at ∙ ap (drop at) is) c.in_ok-take_keys.ensures.takes)
     c.in_ok-take_keys.ensures.cost few)

@@ -16,5 +16,5 @@ returns g c =
     ∙ one_range c.args.pattern all c.requires.leads c.requires.fit in
     record {
       keys = subst (λ found. IfOk c.range.result (λ keys. keys ≡ found)) same c.range.ensures.keys;
-      cost = subst (λ n. WithinSteps (length all) (9 + n) c.args.steps.now c.range.new.steps) (ap length same ∙ length-filter (slots_agree c.args.pattern) all) c.range.ensures.cost;
+      cost = subst (λ n. WithinSteps (length all) (9 + n) (g.C.StepCounter.total c.args.steps.now) (g.C.StepCounter.total c.range.new.steps)) (ap length same ∙ length-filter (slots_agree c.args.pattern) all) c.range.ensures.cost;
     }

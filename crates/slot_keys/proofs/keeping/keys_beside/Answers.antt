@@ -1,40 +1,44 @@
--- What was met, and what is left.
-use Rattle.std.proofs.Common.{◌++◌, ap, length, map as mapped, not, sym, ◌∙◌}
-use Rattle.rising.specs.Rising.{has}
-use Rattle.rising.proofs.Rising.{IsRising-sorted}
-use Rattle.slot_keys.specs.Keys.{key_cmp, key_cmp-total}
-use Rattle.slot_keys.specs.Marks.{marked}
-use Rattle.slot_keys.proofs.Marked.{IsRising-marked}
-use Rattle.slot_keys.proofs.Placing.{difference-gone, length-marked, marked-among}
-use Rattle.slot_keys.proofs.Staying.{kept_there}
+-- Without counts each key has the count 0.
+use Rattle.std.proofs.Common.{◌≡◌, ◌≢◌, ℕ, ◌<◌, ◌++◌, List, [], ◌∷◌, length, ap, refl, sym, ◌∙◌, arith}
+use Rattle.std.specs.Prelude.{map as mapped}
+use Rattle.std.proofs.lemmas.List.{length-replicate}
+use Rattle.rising.specs.Rising.{sorted}
+use Rattle.slot_keys.specs.declared.key.Key.{Key}
+use Rattle.slot_keys.specs.Keys.{key_cmp}
+use Rattle.slot_keys.specs.KeyCounts.{count_beside, counted_keys}
+use Rattle.slot_keys.proofs.Staying.{counted_zeros, none_beside}
 use Rattle.slot_keys.proofs.keeping.keys_beside.Goals as goal
 
-pub laid_in_one-requires-clause-rising_others : goal.laid_in_one-requires-clause-rising_others
-laid_in_one-requires-clause-rising_others c = rw c.as_slice-2.ensures.value c.in_ok-parted.ensures.rising
+no_count : (counts : List ℕ) (n : ℕ) → (0 < length counts → length counts ≡ n) → length counts ≢ n → counts ≡ []
+no_count [] n all other = refl
+no_count (k ∷ counts) n all other = absurd (other (all (omega arith)))
 
-pub laid_in_one-requires-clause-apart : goal.laid_in_one-requires-clause-apart
-laid_in_one-requires-clause-apart c key is = ap (has key_cmp key) c.as_slice-2.ensures.value ∙ c.in_ok-parted.ensures.apart key is
+none_counted : (keys : List Key) → counted_keys keys [] ≡ []
+none_counted [] = refl
+none_counted (k ∷ keys) = refl
 
-pub laid_in_one-requires-clause-as_many : goal.laid_in_one-requires-clause-as_many
-laid_in_one-requires-clause-as_many c = ap length c.as_slice.ensures.value ∙ c.in_ok-parted.ensures.len
+nothing_beside : (keys : List Key) (key : Key) → count_beside keys [] key ≡ 0
+nothing_beside [] key = refl
+nothing_beside (k ∷ keys) key = refl
 
-pub walk_beside-requires : goal.walk_beside-requires
-walk_beside-requires c = rw (c.as_slice-3.ensures.value, c.in_ok-laid.ensures.keys) (IsRising-sorted key_cmp-total (marked c.args.left.keys.rising.now c.as_slice.result.now ++ c.as_slice-2.result.now))
+same_counts : (keys : List Key) (a b : List ℕ) → ((key : Key) → count_beside keys a key ≡ count_beside keys b key) → (all : List Key) → mapped (count_beside keys a) all ≡ mapped (count_beside keys b) all
+same_counts keys a b same [] = refl
+same_counts keys a b same (k ∷ all) = let first = same k in let rest = same_counts keys a b same all in cc
+
+pub counted_beside-requires-2-clause-as_many : goal.counted_beside-requires-2-clause-as_many
+counted_beside-requires-2-clause-as_many c = ap length (c.as_slice.ensures.value ∙ c.in_ok-none.ensures) ∙ length-replicate _ 0
 
 pub returns-clause-keys : goal.returns-clause-keys
-returns-clause-keys c = rw (c.as_slice.ensures.value, c.as_slice-2.ensures.value) at c.in_ok-laid.ensures.keys ∙ c.in_ok-parted.ensures.same
+returns-clause-keys c =
+    let keys = c.args.left.keys.rising.now in
+    let none : c.args.left.counts.now ≡ [] = no_count _ _ c.requires.as_many c.if-left.false in
+    c.in_ok-done.ensures.keys
+    ∙ ap (λ (stay : List Key). sorted key_cmp (c.args.met.now.keys.items ++ stay))
+    (counted_zeros keys _ c.as_slice.result.now (c.as_slice.ensures.value ∙ c.in_ok-none.ensures) ∙ sym (none_counted keys) ∙ ap (counted_keys keys) (sym none))
 
-pub returns-clause-rising : goal.returns-clause-rising
-returns-clause-rising c = rw c.in_ok-laid.ensures.gone (IsRising-marked key_cmp c.args.left.keys.rising.now _ c.requires.rising)
-
-pub returns-clause-had : goal.returns-clause-had
-returns-clause-had c key is = marked-among c.args.left.keys.rising.now (mapped not c.as_slice.result.now) key (sym (ap (has key_cmp key) c.in_ok-laid.ensures.gone) ∙ is)
-
-pub returns-clause-few : goal.returns-clause-few
-returns-clause-few c = rw c.in_ok-laid.ensures.gone (length-marked c.args.left.keys.rising.now _)
-
-pub returns-clause-gone : goal.returns-clause-gone
-returns-clause-gone c =
-    let old = c.args.left.keys.rising.now in
-    let stays = c.as_slice.result.now in
-    rw c.in_ok-laid.ensures.gone (difference-gone old stays _ (ap length c.as_slice.ensures.value ∙ c.in_ok-parted.ensures.len) (kept_there old c.as_slice-2.result.now _ stays c.in_ok-laid.ensures.keys))
+pub returns-clause-counts : goal.returns-clause-counts
+returns-clause-counts c =
+    let keys = c.args.left.keys.rising.now in
+    let none : c.args.left.counts.now ≡ [] = no_count _ _ c.requires.as_many c.if-left.false in
+    c.in_ok-done.ensures.counts
+    ∙ same_counts keys _ _ (λ key. none_beside keys _ c.as_slice.result.now (c.as_slice.ensures.value ∙ c.in_ok-none.ensures) key ∙ sym (nothing_beside keys key) ∙ ap (λ ns. count_beside keys ns key) (sym none)) _

@@ -4,8 +4,8 @@ use Rattle.std.specs.List.{flat_map}
 use Rattle.triple_store.proofs.Patched.{each_itself}
 use Rattle.triple_store.proofs.patching.texts_of.Goals as goal
 
-pub returns-clause-texts : goal.returns-clause-texts
-returns-clause-texts c =
+pub returns : goal.returns
+returns c =
     c.in_ok-emit_all.ensures.gains.0
     ∙ ap (λ l. l ++ flat_map (λ t. t ∷ []) c.args.triples.now) c.new-texts.ensures
     ∙ each_itself c.args.triples.now

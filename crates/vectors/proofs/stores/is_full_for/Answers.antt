@@ -12,5 +12,5 @@ pub apply-applied-requires-clause-may_come : goal.apply-applied-requires-clause-
 apply-applied-requires-clause-may_come c = record {
   fit = subst (AllByRecursion HasFitAndShortTerms) (sym c.in-Some.ensures) (c.requires.fit, tt);
   countable = of_each (λ (t : Triple). count_of (counts_in c.args.store.now) t < 18446744073709551615) c.args.triple.now _ c.in-Some.ensures
-      (omega (arith, c.if-owners.false, c.owners.ensures, c.owners.type_inv));
+      (omega (arith, c.if-owners.false, c.owners.ensures.count, c.owners.type_inv));
 }

@@ -31,7 +31,7 @@ returns-in_err-take_from-clause-cost g c =
     let same = sym (range_is g.met.K.Ranked.total c.args.from c.args.to (keys_of gs) i p.at p.found c.locate-position.ensures.stands
     (subst (λ hs. IsRising g.K.Ranked.cmp (keys_of (keys_of hs))) (sym c.as_slice-groups.ensures.value) c.self.invariant.index.rising))
     ∙ ap (keys_between g.K.Ranked.cmp c.args.from c.args.to) all in
-    let few = subst (λ ks. c.take_from.new.steps ≤ c.locate-position.new.steps + length ks) same c.in_err-take_from.ensures.refused in
+    let few = subst (λ ks. (g.C.StepCounter.total c.take_from.new.steps) ≤ (g.C.StepCounter.total c.locate-position.new.steps) + length ks) same c.in_err-take_from.ensures.refused in
     let long = ap length all in
     let found = c.locate-position.ensures.cost in
     let forth = c.in_err-take_from.ensures.forward in

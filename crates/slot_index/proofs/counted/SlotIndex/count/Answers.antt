@@ -14,7 +14,7 @@ returns-then-find-clause-count g c =
 
 pub returns-then-find-clause-cost : goal.returns-then-find-clause-cost
 returns-then-find-clause-cost g c =
-    subst (λ n. WithinSteps n 8 c.args.steps.now c.find.new.steps) (sym (len-with_more c.self.inside.orders (counts_of c.self.inside.more.entries) c.find.ensures.rising) ∙ ap map.len c.self.view_is) c.find.ensures.cost
+    subst (λ n. WithinSteps n 8 (g.C.StepCounter.total c.args.steps.now) (g.C.StepCounter.total c.find.new.steps)) (sym (len-with_more c.self.inside.orders (counts_of c.self.inside.more.entries) c.find.ensures.rising) ∙ ap map.len c.self.view_is) c.find.ensures.cost
 
 pub returns-else-find-clause-count : goal.returns-else-find-clause-count
 returns-else-find-clause-count g c =
@@ -23,4 +23,4 @@ returns-else-find-clause-count g c =
 
 pub returns-else-find-clause-cost : goal.returns-else-find-clause-cost
 returns-else-find-clause-cost g c =
-    subst (λ n. WithinSteps n 8 c.args.steps.now c.find.new.steps) (sym (len-with_more c.self.inside.orders (counts_of c.self.inside.more.entries) c.find.ensures.rising) ∙ ap map.len c.self.view_is) c.find.ensures.cost
+    subst (λ n. WithinSteps n 8 (g.C.StepCounter.total c.args.steps.now) (g.C.StepCounter.total c.find.new.steps)) (sym (len-with_more c.self.inside.orders (counts_of c.self.inside.more.entries) c.find.ensures.rising) ∙ ap map.len c.self.view_is) c.find.ensures.cost

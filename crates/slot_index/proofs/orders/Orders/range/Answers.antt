@@ -20,7 +20,7 @@ returns-then-leads-clause-found g c =
 
 pub returns-then-leads-clause-cost : goal.returns-then-leads-clause-cost
 returns-then-leads-clause-cost g c =
-    subst (λ all. WithinSteps (length all) (9 + count_by (slots_agree c.args.pattern) all) c.args.steps.now c.leading.new.steps) c.self.view_is c.leading.ensures.cost
+    subst (λ all. WithinSteps (length all) (9 + count_by (slots_agree c.args.pattern) all) (g.C.StepCounter.total c.args.steps.now) (g.C.StepCounter.total c.leading.new.steps)) c.self.view_is c.leading.ensures.cost
 
 pub returns-in_err-found-clause-cost : goal.returns-in_err-found-clause-cost
 returns-in_err-found-clause-cost g c =

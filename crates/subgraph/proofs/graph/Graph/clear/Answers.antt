@@ -11,19 +11,19 @@ pub invariant_of-self : goal.invariant_of-self
 invariant_of-self c =
     step_left c.self.inside.store c.release.new.self c.self.inside.owned.entries c.take_out.new.owned.entries c.args.id c.self.invariant c.take_out.ensures.after c.release.ensures.rest.sound c.release.ensures.rest.keeps
     (left_counted c.self.inside.store c.release.new.self c.self.inside.owned.entries c.args.id c.in-Some.keys c.self.invariant (sym c.in-Some.ensures.before)
-    (subst (λ (ks : List Key). (ts : List Triple) → AreKeysOf c.self.inside.store ks ts → Exchanges (counts_in c.self.inside.store) (counts_in c.release.new.self) ts []) c.slices.ensures c.release.ensures.released))
+    (subst (λ (ks : List Key). (ts : List Triple) → AreKeysOf c.self.inside.store ks ts → Exchanges (counts_in c.self.inside.store) (counts_in c.release.new.self) ts []) c.slices.ensures c.in-Ok.ensures.released.ok))
 
 pub invariant_of-self-in_default : goal.invariant_of-self-in_default
 invariant_of-self-in_default c =
     step_left c.self.inside.store c.self.inside.store c.self.inside.owned.entries c.take_out.new.owned.entries c.args.id c.self.invariant c.take_out.ensures.after c.self.invariant.sound (record { kept = λ key t is _. is })
     (none_counted c.self.inside.store c.self.inside.owned.entries c.args.id c.self.invariant (sym c.in_default.ensures.before))
 
-pub returns-in-Some : goal.returns-in-Some
-returns-in-Some c = rw (← c.self.view_is) (λ i. record {
+pub returns-in-Ok : goal.returns-in-Ok
+returns-in-Ok c = rw (← c.self.view_is) (λ i. record {
   sets =
       sets_left c.self.inside.store c.release.new.self c.self.inside.owned.entries c.take_out.new.owned.entries c.args.id c.self.invariant c.take_out.ensures.after c.release.ensures.rest.sound c.release.ensures.rest.keeps
       (left_counted c.self.inside.store c.release.new.self c.self.inside.owned.entries c.args.id c.in-Some.keys c.self.invariant (sym c.in-Some.ensures.before)
-      (subst (λ (ks : List Key). (ts : List Triple) → AreKeysOf c.self.inside.store ks ts → Exchanges (counts_in c.self.inside.store) (counts_in c.release.new.self) ts []) c.slices.ensures c.release.ensures.released)) i;
+      (subst (λ (ks : List Key). (ts : List Triple) → AreKeysOf c.self.inside.store ks ts → Exchanges (counts_in c.self.inside.store) (counts_in c.release.new.self) ts []) c.slices.ensures c.in-Ok.ensures.released.ok)) i;
   limit = c.release.ensures.rest.limit i;
 })
 

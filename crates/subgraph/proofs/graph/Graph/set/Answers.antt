@@ -5,11 +5,21 @@ use Rattle.entity_model.specs.declared.id.EntityId.{EntityId}
 use Rattle.entity_model.specs.EntityId.{entity_cmp}
 use Rattle.term_pool.specs.declared.fault.PoolFault.TheVariants.{Full}
 use Rattle.triple_store.specs.StoreState.{limit_of}
+use Rattle.triple_store.specs.declared.telling.Telling.TheVariants.{Nothing}
+use Rattle.triple_store.proofs.Whole.{IsWhole, whole, whole_full}
 use Rattle.slot_keys.specs.declared.keys.Keys.{Keys}
 use Rattle.subgraph.specs.Graph.{IsInStep, keys_at, rising_keys, sets_in}
 use Rattle.subgraph.proofs.Stepping.{are_stored, sets_same, sets_set, step_same, step_set}
 use Rattle.subgraph.proofs.Stored.{may_come, room_is}
+use Rattle.subgraph.proofs.graph.Graph.set.Goals.{After-put}
 use Rattle.subgraph.proofs.graph.Graph.set.Goals as goal
+
+came : (c : After-put) → IsWhole Nothing c.self.inside.store c.exchange.new.self c.keys_of.result.rising.now c.args.new.now c.in-Ok.field-0
+came c =
+    whole c.self.inside.store c.keys_of.result.rising.now c.args.new.now c.self.invariant.sound
+    (are_stored c.self.inside.store c.self.inside.owned.entries c.args.id c.keys_of.result.rising.now c.self.invariant
+    (c.keys_of.ensures ∙ ap (λ (es : List (EntityId × Keys)). rising_keys (keys_at es c.args.id)) c.reserve.ensures.entries))
+    Nothing c.exchange.new.self c.in-Ok.field-0 c.in-Ok.ensures.exchanged.done
 
 pub exchange-requires-clause-may_come : goal.exchange-requires-clause-may_come
 exchange-requires-clause-may_come c =
@@ -22,10 +32,10 @@ exchange-requires-clause-stored c =
 
 pub invariant_of-self-in-Ok : goal.invariant_of-self-in-Ok
 invariant_of-self-in-Ok c =
-    step_set c.self.inside.store c.exchange.new.self c.self.inside.owned.entries c.put.new.owned.entries c.args.id c.in-Ok.keys c.args.new.now c.keys_of.result.rising.now c.self.invariant
-    (λ y. c.put.ensures y ∙ ap (λ (es : List (EntityId × Keys)). cond (eq_by_cmp entity_cmp c.args.id y) (Some c.in-Ok.keys) (keys_at es y)) c.reserve.ensures.entries)
+    step_set c.self.inside.store c.exchange.new.self c.self.inside.owned.entries c.put.new.owned.entries c.args.id c.in-Ok.field-0.keys c.args.new.now c.keys_of.result.rising.now c.self.invariant
+    (λ y. c.put.ensures y ∙ ap (λ (es : List (EntityId × Keys)). cond (eq_by_cmp entity_cmp c.args.id y) (Some c.in-Ok.field-0.keys) (keys_at es y)) c.reserve.ensures.entries)
     (c.keys_of.ensures ∙ ap (λ (es : List (EntityId × Keys)). rising_keys (keys_at es c.args.id)) c.reserve.ensures.entries)
-    c.in-Ok.ensures.exchanged.ok c.in-Ok.ensures.exchanged.keys c.exchange.ensures.rest.sound c.exchange.ensures.rest.keeps
+    (came c).counts (came c).keys_are c.exchange.ensures.rest.sound c.exchange.ensures.rest.keeps
 
 pub invariant_of-self-in-Err : goal.invariant_of-self-in-Err
 invariant_of-self-in-Err c = subst (IsInStep c.exchange.new.self) (sym c.reserve.ensures.entries)
@@ -34,16 +44,16 @@ invariant_of-self-in-Err c = subst (IsInStep c.exchange.new.self) (sym c.reserve
 pub returns-in-Ok-clause-ok : goal.returns-in-Ok-clause-ok
 returns-in-Ok-clause-ok c = rw (← c.self.view_is) (λ i. record {
   sets =
-      sets_set c.self.inside.store c.exchange.new.self c.self.inside.owned.entries c.put.new.owned.entries c.args.id c.in-Ok.keys c.args.new.now c.keys_of.result.rising.now c.self.invariant
-      (λ y. c.put.ensures y ∙ ap (λ (es : List (EntityId × Keys)). cond (eq_by_cmp entity_cmp c.args.id y) (Some c.in-Ok.keys) (keys_at es y)) c.reserve.ensures.entries)
+      sets_set c.self.inside.store c.exchange.new.self c.self.inside.owned.entries c.put.new.owned.entries c.args.id c.in-Ok.field-0.keys c.args.new.now c.keys_of.result.rising.now c.self.invariant
+      (λ y. c.put.ensures y ∙ ap (λ (es : List (EntityId × Keys)). cond (eq_by_cmp entity_cmp c.args.id y) (Some c.in-Ok.field-0.keys) (keys_at es y)) c.reserve.ensures.entries)
       (c.keys_of.ensures ∙ ap (λ (es : List (EntityId × Keys)). rising_keys (keys_at es c.args.id)) c.reserve.ensures.entries)
-      c.in-Ok.ensures.exchanged.ok c.in-Ok.ensures.exchanged.keys c.exchange.ensures.rest.sound c.exchange.ensures.rest.keeps i;
+      (came c).counts (came c).keys_are c.exchange.ensures.rest.sound c.exchange.ensures.rest.keeps i;
   limit = c.exchange.ensures.rest.limit i;
 })
 
 pub returns-in-Ok-clause-within : goal.returns-in-Ok-clause-within
 returns-in-Ok-clause-within c = rw (← c.self.view_is)
-    (subst (λ n. n ≤ limit_of c.self.inside.store) (room_is c.self.inside.store c.self.inside.owned.entries c.self.invariant c.args.new.now) c.in-Ok.ensures.exchanged.within)
+    (subst (λ n. n ≤ limit_of c.self.inside.store) (room_is c.self.inside.store c.self.inside.owned.entries c.self.invariant c.args.new.now) (came c).within)
 
 pub returns-in-Err-clause-err : goal.returns-in-Err-clause-err
 returns-in-Err-clause-err c = rw (← c.self.view_is) (λ i. record {
@@ -56,4 +66,7 @@ returns-in-Err-clause-err c = rw (← c.self.view_is) (λ i. record {
 pub returns-in-Err-clause-full : goal.returns-in-Err-clause-full
 returns-in-Err-clause-full c = rw (← c.self.view_is) (λ is.
     let same : c.in-Err.fault ≡ Full = cc in
-    subst (λ n. limit_of c.self.inside.store < n) (room_is c.self.inside.store c.self.inside.owned.entries c.self.invariant c.args.new.now) (c.in-Err.ensures.exchanged.full (ap (λ fault. Err fault) same)))
+    subst (λ n. limit_of c.self.inside.store < n) (room_is c.self.inside.store c.self.inside.owned.entries c.self.invariant c.args.new.now) (whole_full c.self.inside.store c.keys_of.result.rising.now c.args.new.now c.self.invariant.sound
+    (are_stored c.self.inside.store c.self.inside.owned.entries c.args.id c.keys_of.result.rising.now c.self.invariant
+    (c.keys_of.ensures ∙ ap (λ (es : List (EntityId × Keys)). rising_keys (keys_at es c.args.id)) c.reserve.ensures.entries))
+    (c.in-Err.ensures.exchanged.full (ap (λ fault. Err fault) same))))

@@ -92,4 +92,4 @@ pub returns-in-Ok-false-clause-cost : goal.returns-in-Ok-false-clause-cost
 returns-in-Ok-false-clause-cost g c = one_came c.args.self.now.index c.raise.new.self c.in-Ok.key _ _ c.in-Ok-false.ensures.ok c.raise.ensures.forward c.raise.ensures.cost
 
 pub returns-in-Err-raise-clause-cost : goal.returns-in-Err-raise-clause-cost
-returns-in-Err-raise-clause-cost g c = subst (λ (m : KeyCounts). Costs (map.len c.args.self.now.index) (map.len m) 1 0 c.args.steps.now c.raise.new.steps) (sym c.in-Err-raise.ensures.err) (none_came _ _ _ c.raise.ensures.forward c.raise.ensures.cost)
+returns-in-Err-raise-clause-cost g c = subst (λ (m : KeyCounts). Costs (map.len c.args.self.now.index) (map.len m) 1 0 (g.C.StepCounter.total c.args.steps.now) (g.C.StepCounter.total c.raise.new.steps)) (sym c.in-Err-raise.ensures.err) (none_came _ _ _ c.raise.ensures.forward c.raise.ensures.cost)

@@ -12,7 +12,7 @@ use Rattle.triple_store.proofs.Ordered.{every, every_by_texts, every_rises, ever
 use Rattle.triple_store.proofs.catalog.Catalog.all_rows.Goals as goal
 
 pub invariant_of-result : goal.invariant_of-result
-invariant_of-result g c =
+invariant_of-result c =
     let found = c.as_slice.result.now in
     let m = triple_at c.args.self.now.pool c.args.region.now in (
       subst (λ o. IfSome o AreRankedRows) c.in-Some.is c.in_ok-ranked.ensures.rows,
@@ -22,7 +22,7 @@ invariant_of-result g c =
     )
 
 pub returns-in-Some : goal.returns-in-Some
-returns-in-Some g c =
+returns-in-Some c =
     let found = c.as_slice.result.now in
     let m = triple_at c.args.self.now.pool c.args.region.now in
     every_row c.args.self.now c.args.region.now found c.requires (λ f. ap (λ ks. count_by f ks) c.as_slice.ensures ∙ c.in_ok-keys.ensures.found f) (ranked_triples c.in-Some.ranked)
@@ -30,10 +30,10 @@ returns-in-Some g c =
     (subst (λ o. IfSome o (λ ranked. IsSorted triple_cmp (ranked_triples ranked))) c.in-Some.is c.in_ok-ranked.ensures.sorted)
 
 pub texts_of-requires-clause-there : goal.texts_of-requires-clause-there
-texts_of-requires-clause-there g c = found_stored c.args.self.now.index every c.as_slice-2.result.now (λ f. ap (λ ks. count_by f ks) c.as_slice-2.ensures ∙ c.in_ok-keys.ensures.found f)
+texts_of-requires-clause-there c = found_stored c.args.self.now.index every c.as_slice-2.result.now (λ f. ap (λ ks. count_by f ks) c.as_slice-2.ensures ∙ c.in_ok-keys.ensures.found f)
 
 pub invariant_of-result-2 : goal.invariant_of-result-2
-invariant_of-result-2 g c = record {
+invariant_of-result-2 c = record {
   canonical = All-permutation HasCanonicalTexts c.in_ok-rows.rows.items c.sort_rows.new.rows.items c.sort_rows.ensures.same c.in_ok-rows.ensures.canonical;
   rising = rows_rising c.args.self.now c.args.region.now every c.as_slice-2.result.now c.in_ok-rows.rows.items c.sort_rows.new.rows.items
       c.requires (λ f. ap (λ ks. count_by f ks) c.as_slice-2.ensures ∙ c.in_ok-keys.ensures.found f)
@@ -41,6 +41,6 @@ invariant_of-result-2 g c = record {
 }
 
 pub returns : goal.returns
-returns g c =
+returns c =
     every_by_texts c.args.self.now c.args.region.now c.as_slice-2.result.now c.requires (λ f. ap (λ ks. count_by f ks) c.as_slice-2.ensures ∙ c.in_ok-keys.ensures.found f)
     c.in_ok-rows.rows.items c.sort_rows.new.rows.items c.in_ok-rows.ensures.triples c.in_ok-rows.ensures.canonical c.sort_rows.ensures.same c.sort_rows.ensures.sorted

@@ -9,7 +9,7 @@ use Rattle.triple_store.proofs.catalog.Catalog.count.Goals as goal
 pub returns-in-Some : goal.returns-in-Some
 returns-in-Some g c = record {
   count = c.count.ensures.count ∙ sym (count_image c.args.self.now.pool c.args.region.now c.args.self.now.index c.in-Some.key c.args.triple.now c.requires.lies (live_stored c.args.self.now c.args.region.now c.requires) c.in-Some.ensures.found);
-  cost = subst (λ n. WithinSteps n 8 c.args.steps.now c.count.new.steps) (sym (len_image c.args.self.now c.args.region.now c.requires)) c.count.ensures.cost;
+  cost = subst (λ n. WithinSteps n 8 (g.C.StepCounter.total c.args.steps.now) (g.C.StepCounter.total c.count.new.steps)) (sym (len_image c.args.self.now c.args.region.now c.requires)) c.count.ensures.cost;
 }
 
 pub returns-in-None : goal.returns-in-None

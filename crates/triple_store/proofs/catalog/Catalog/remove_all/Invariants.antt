@@ -8,5 +8,5 @@ use Rattle.triple_store.proofs.catalog.Catalog.remove_all.Given as goal
 abbrev pub invariant-loop-triple : goal.invariant-loop-triple
 invariant-loop-triple g l = record {
   loses : Loses l.initial.self l.initial.region l.self l.region (take l.triple-index l.triples);
-  cost : Costs (map.len l.initial.self.index) (map.len l.self.index) 0 l.triple-index l.initial.steps l.steps;
+  cost : Costs (map.len l.initial.self.index) (map.len l.self.index) 0 l.triple-index (g.C.StepCounter.total l.initial.steps) (g.C.StepCounter.total l.steps);
 }

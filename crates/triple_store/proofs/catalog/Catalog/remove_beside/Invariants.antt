@@ -9,5 +9,5 @@ use Rattle.triple_store.proofs.catalog.Catalog.remove_beside.Given as goal
 abbrev pub invariant-loop-key : goal.invariant-loop-key
 invariant-loop-key g l = record {
   removes : Removes l.initial.self l.initial.region l.self l.region (difference key_cmp (take l.key-index l.keys) l.others);
-  cost : Costs (map.len l.initial.self.index) (map.len l.self.index) 0 l.key-index l.initial.steps l.steps;
+  cost : Costs (map.len l.initial.self.index) (map.len l.self.index) 0 l.key-index (g.C.StepCounter.total l.initial.steps) (g.C.StepCounter.total l.steps);
 }

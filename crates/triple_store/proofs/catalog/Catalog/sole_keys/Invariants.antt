@@ -8,5 +8,5 @@ use Rattle.triple_store.proofs.catalog.Catalog.sole_keys.Given as goal
 abbrev pub invariant-loop-key : goal.invariant-loop-key
 invariant-loop-key g l = record {
   sole : l.found.items ≡ sole l.self (take l.key-index l.keys) l.others;
-  cost : Costs (map.len l.self.index) (map.len l.self.index) 0 l.key-index l.initial.steps l.steps;
+  cost : Costs (map.len l.self.index) (map.len l.self.index) 0 l.key-index (g.C.StepCounter.total l.initial.steps) (g.C.StepCounter.total l.steps);
 }

@@ -3,4 +3,4 @@ use Rattle.std.proofs.Common.{◌∙◌}
 use Rattle.world.proofs.holdings.Holdings.owners.Goals as goal
 
 pub returns : goal.returns
-returns c = rw (← c.self.view_is) (c.owners.ensures ∙ c.self.invariant.kept.counted.owned c.args.triple.now)
+returns c = rw (← c.self.view_is) (c.owners.ensures.count ∙ c.self.invariant.kept.counted.owned c.args.triple.now)

@@ -15,10 +15,10 @@ before c = rw c.make_room.ensures.records c.self.invariant
 
 after : (c : After-remove-2) → AreInStep c.replace.new.store c.remove-2.new.self c.replace.new.table.records
 after c = rw c.replace.ensures.records
-    (gone_step c.self.inside.store c.self.inside.holders c.make_room.new.table.records c.args.id (rw c.make_room.ensures.records c.self.invariant) c.release_with.new.self c.replace.new.store
-    c.args.after.state c.args.after.reconciled c.release_with.ensures.rest.beside c.replace.ensures.freed c.remove-2.new.self c.keys_of.result.rising.now
+    (gone_step c.self.inside.store c.self.inside.holders c.make_room.new.table.records c.args.id (rw c.make_room.ensures.records c.self.invariant) c.release.new.self c.replace.new.store
+    c.args.after.state c.args.after.reconciled c.release.ensures.rest.beside c.replace.ensures.freed c.remove-2.new.self c.keys_of.result.rising.now
     (c.remove-2.ensures ∙ ap (λ (i : ByVersion). without_holder i c.args.id Two) c.remove.ensures)
-    c.replace.ensures.sound c.keys_of.ensures c.in_ok-change.ensures.released.ok c.release_with.ensures.rest.keeps c.replace.ensures.counts c.replace.ensures.kept)
+    c.replace.ensures.sound c.keys_of.ensures c.in_ok-change.ensures.released.ok c.release.ensures.rest.keeps c.replace.ensures.counts c.replace.ensures.kept)
 
 pub invariant_of-self : goal.invariant_of-self
 invariant_of-self c = before c
@@ -42,13 +42,13 @@ returns-in_err-change-clause-holders c = rw c.in_err-change.ensures.released.err
 
 pub returns-clause-records : goal.returns-clause-records
 returns-clause-records c = rw (← c.self.view_is, ← c.make_room.ensures.records) (ap (seen c.replace.new.store) c.replace.ensures.records
-    ∙ gone_seen c.self.inside.store c.self.inside.holders c.make_room.new.table.records c.args.id (rw c.make_room.ensures.records c.self.invariant) c.release_with.new.self c.replace.new.store
-    c.args.after.state c.args.after.reconciled c.release_with.ensures.rest.beside c.replace.ensures.freed)
+    ∙ gone_seen c.self.inside.store c.self.inside.holders c.make_room.new.table.records c.args.id (rw c.make_room.ensures.records c.self.invariant) c.release.new.self c.replace.new.store
+    c.args.after.state c.args.after.reconciled c.release.ensures.rest.beside c.replace.ensures.freed)
 
 pub returns-clause-change : goal.returns-clause-change
 returns-clause-change c = rw (← c.self.view_is)
     (step_tells c.self.inside.store c.replace.new.store c.self.inside.holders c.remove-2.new.self c.self.inside.table.records c.replace.new.table.records c.self.invariant (after c)
-    (counts_in c.self.inside.store) (counts_in c.release_with.new.self) refl (sym c.replace.ensures.counts) c.args.telling c.in_ok-change.change c.in_ok-change.ensures.released.told)
+    (counts_in c.self.inside.store) (counts_in c.release.new.self) refl (sym c.replace.ensures.counts) c.args.telling c.in_ok-change.change c.in_ok-change.ensures.released.told)
 
 pub returns-clause-held : goal.returns-clause-held
 returns-clause-held c = has_room _ _ _ (after c)

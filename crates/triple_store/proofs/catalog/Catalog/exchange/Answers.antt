@@ -24,7 +24,7 @@ use Rattle.triple_store.proofs.Parts.{room_same, stand_themselves, taken_with}
 use Rattle.triple_store.proofs.Rooming.{same_fault}
 use Rattle.triple_store.proofs.Stocked.{length-sorted, room_within}
 use Rattle.triple_store.proofs.Taking.{whole_taken}
-use Rattle.triple_store.proofs.catalog.Catalog.exchange_beside.Goals as goal
+use Rattle.triple_store.proofs.catalog.Catalog.exchange.Goals as goal
 
 -- what came and what stays are taken in together
 taken_beside : (st : Catalog) (r : Texts) (now : Catalog) (s : Texts) (had : List Key) (left : List ℕ) (met : List Key) (come kept : List Triple) (n : ℕ) → IsStored st r → n ≡ length come → TakesIn st r now s had met (take n come) → StandFor st r (counted_keys had left) kept → TakesIn st r now s had (met ++ counted_keys had left) (kept ++ come)

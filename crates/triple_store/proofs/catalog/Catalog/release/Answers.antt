@@ -3,7 +3,7 @@ use Rattle.triple_store.specs.Telling.{if_told}
 use Rattle.triple_store.proofs.Costs.{at_most, counted, told_between, told_fewer, no_change}
 use Rattle.triple_store.proofs.Differing.{is_released}
 use Rattle.triple_store.proofs.Exchanged.{released}
-use Rattle.triple_store.proofs.catalog.Catalog.release_with.Goals as goal
+use Rattle.triple_store.proofs.catalog.Catalog.release.Goals as goal
 
 pub returns-clause-released : goal.returns-clause-released
 returns-clause-released g c = released _ _ _ _ c.args.old.now c.remove_beside.ensures.removes

@@ -1,6 +1,6 @@
 -- The keys, borrowed, are the keys.
 use Rattle.std.proofs.Common.{length, ap, sym, ◌∙◌}
-use Rattle.triple_store.proofs.parting.timed.Goals as goal
+use Rattle.triple_store.proofs.exchanging.timed.Goals as goal
 
 pub times_after-times-requires-clause-rising : goal.times_after-times-requires-clause-rising
 times_after-times-requires-clause-rising c = rw c.slices.ensures c.requires.rising

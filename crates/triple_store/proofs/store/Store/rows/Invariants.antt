@@ -1,4 +1,0 @@
-use Rattle.triple_store.proofs.store.Store.rows.Given as goal
-
-abbrev pub ghosts-rows_by : goal.ghosts-rows_by
-ghosts-rows_by a = record { name = a.blank.name; parts = a.blank.parts }
