@@ -1,5 +1,5 @@
 #!/bin/sh
-# Tries the whole path of docs/FEEDING.md without a network: it makes a stream of page changes an event file, wdq replays it, the script
+# Tries the whole path of README.md without a network: it makes a stream of page changes an event file, wdq replays it, the script
 # reconciles what the side output leaves in doubt, and wdq replays again. It needs jq, and says whether the output is that of expected.txt.
 case ${1-} in -h | --help) sed -n '2,3s/^# \{0,1\}//p' "$0"; exit 0 ;; esac
 cd "$(dirname "$0")" || exit 2

@@ -82,7 +82,8 @@ class Mirror:
     def init(self, wiki: Wiki, *words: str) -> "Mirror":
         """Makes the home, with short pauses."""
         self.good("init", "--agent", "try/1.0 (nobody@example.org)", "--site", wiki.site, "--stream-url", wiki.site + "/stream", *words)
-        self.set(pause_seconds=0.02, keep_eras=0, history_days=0)
+        # The store may be slow where the machine is busy.
+        self.set(pause_seconds=0.02, keep_eras=0, history_days=0, timeout_seconds=600)
         return self
 
     def load(self, wiki: Wiki) -> "Mirror":

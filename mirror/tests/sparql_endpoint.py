@@ -1,5 +1,5 @@
 #!/usr/bin/python3
-"""A store of rdflib behind the SPARQL 1.1 protocol, in memory, for one client at a time on the loopback address.
+"""A store of rdflib behind the SPARQL 1.1 protocol, in memory, on the loopback address.
 
 A POST is an update or, by its content type, a query (answered in JSON). A GET gives a graph, ?graph=, as sorted N-Triples, and a PUT replaces
 it. Literals are kept as they are spelled. An answer has at most --rows rows, as those of some stores do, without a word. It prints its URL
@@ -12,6 +12,7 @@ import json
 import pathlib
 import re
 import sys
+import threading
 import urllib.parse
 
 try:
@@ -84,7 +85,8 @@ class Handler(http.server.BaseHTTPRequestHandler):
 
     def answer(self, work, kind):
         try:
-            body, status = work(), 200
+            with self.server.lock:
+                body, status = work(), 200
         except Exception as fault:
             body, status = f"{type(fault).__name__}: {fault}".encode(), 400
         try:
@@ -118,8 +120,8 @@ def main():
     words = parser.parse_args()
     if rdflib is None:
         sys.exit("sparql_endpoint.py: python3-rdflib is missing")
-    server = http.server.HTTPServer(("127.0.0.1", words.port), Handler)
-    server.store, server.rows = make_store(), words.rows
+    server = http.server.ThreadingHTTPServer(("127.0.0.1", words.port), Handler)
+    server.store, server.rows, server.lock = make_store(), words.rows, threading.Lock()
     print(f"http://127.0.0.1:{server.server_port}/", flush=True)
     server.serve_forever()
 

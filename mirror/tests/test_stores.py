@@ -53,7 +53,7 @@ def take(mirror: Mirror, edited: tuple[pathlib.Path, pathlib.Path]) -> None:
     """Loads an empty dump, takes the edits in two steps, and looks at the store; then fills it anew, and looks again."""
     pages, folder = edited
     (folder / "dump.json").write_text("[\n]\n")
-    mirror.set(keep_eras=0)
+    mirror.set(keep_eras=0, timeout_seconds=600)
     mirror.good("load", str(folder / "dump.json"))
     for page in pages.iterdir():
         shutil.copy(page, mirror.home / "pages")

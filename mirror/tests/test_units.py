@@ -217,7 +217,7 @@ def test_words_that_are_wrong(mirror: Mirror) -> None:
     mirror.good("init", "--agent", "try/1.0 (nobody@example.org)")
     assert mirror.run("init") == 2 and "is a home already" in mirror.told
     assert mirror.run("load", "/dev/null/none") == 2
-    for command in ("step", "verify", "update", "reload", "heal"):
+    for command in ("step", "verify", "update", "reload", "run", "heal"):
         assert mirror.run(command) == 2 and "holds nothing yet: wdq-mirror load DUMP" in mirror.told
 
 

@@ -3,7 +3,7 @@
 import shutil
 import urllib.request
 
-from conftest import Mirror, Wiki, settle, stored
+from conftest import Mirror, Wiki, export_of, settle, stored
 
 
 def test_a_step_without_counts(wiki: Wiki, mirror: Mirror, endpoint: str) -> None:
@@ -85,3 +85,25 @@ def test_a_gap_that_the_wiki_does_not_mend(wiki: Wiki, mirror: Mirror) -> None:
     mirror.set(site=wiki.site, tries=6)
     assert "gaps healed: 1" in mirror.good("heal")
     assert "heal mends it" not in mirror.good("status")
+
+
+def test_shards_share_a_store(wiki: Wiki, mirror: Mirror, endpoint: str) -> None:
+    """Two parts in two graphs of one store: together they have what the wiki has, and neither disturbs the other."""
+    parts = []
+    for number in range(2):
+        part = Mirror(mirror.home.parent / f"part{number}")
+        words = ("--shard", f"{number}/2", "--stream", f"urn:stream:{number}", "--graph", f"urn:graph:{number}")
+        parts.append(part.init(wiki, "--store", endpoint, *words).load(wiki))
+    for part in parts:
+        part.set(delay_seconds=0)
+    together: set[str] = set()
+    for _ in range(12):
+        for part in parts:
+            part.step()
+        graphs = [urllib.request.urlopen(f"{endpoint}?graph=urn:graph:{number}").read().decode() for number in range(2)]
+        together = {line for graph in graphs for line in graph.splitlines()}
+        if sorted(together) == export_of(wiki):
+            break
+    assert sorted(together) == export_of(wiki)
+    for part in parts:
+        part.good("verify")

@@ -35,7 +35,7 @@ async def ask_snapshot(home: Home, program: Program, lines: typing.Iterable[byte
     """Asks wdq over the last snapshot, and prints what it answers."""
     era = home.last_era()
     questions = b"".join(checked(lines))
-    words = ["replay", "--resume", str(home.file("snapshots", era.number)), *program.limits(True)]
+    words = ["replay", "--resume", str(home.file("snapshots", era.number)), *program.limits()]
     child = await program.start(words, asyncio.subprocess.PIPE, None)
     assert child.stdin
     child.stdin.write(questions)

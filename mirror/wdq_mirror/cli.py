@@ -17,7 +17,7 @@ To begin (the home is the folder mirror, or that of --home, or of $WDQ_MIRROR):
 
     wdq-mirror init --agent "mirror/1.0 (jane@example.org)"
     wdq-mirror load --began 2024-05-01T00:00:00Z latest-all.json.gz
-    wdq-mirror step
+    wdq-mirror run --http 127.0.0.1:9464
 
 `init` writes mirror.toml, which has all settings. Each command takes them from there.
 """
@@ -119,7 +119,7 @@ async def command_load(words: argparse.Namespace) -> int:
         await loading.check_target(home, session.store, words.clear)
         print("loaded into the home:", await loading.load_dump(home, session.program, words.dump, words.began or "", words.skip_bad_lines))
         written = await loading.fill(home, session.program, session.store, words.clear)
-        print(f"the store has {written} triples. Next: wdq-mirror step, from cron")
+        print(f"the store has {written} triples. Next: wdq-mirror run, or wdq-mirror step from cron")
     return 0
 
 
@@ -224,6 +224,15 @@ async def command_ask(words: argparse.Namespace) -> int:
     return 0
 
 
+async def command_run(words: argparse.Namespace) -> int:
+    """Runs the live service."""
+    from .service import Service
+
+    async with Session(words) as session:
+        await Service(session.tools(), words.http).run()
+    return 0
+
+
 def command_backup(words: argparse.Namespace) -> int:
     """Writes a backup."""
     from . import backups
@@ -279,6 +288,8 @@ def add_words(commands: typing.Any) -> None:
     load.add_argument("--clear", action="store_true", help="clear a store that something else filled")
     reload = add("reload", command_reload, "fill the store anew from the home; mends a store that is older, lost or foreign")
     reload.add_argument("--clear", action="store_true", help="clear a store that something else filled")
+    run = add("run", command_run, "keep the store in step with the wiki until it is stopped by SIGTERM or Ctrl-C")
+    run.add_argument("--http", metavar="HOST:PORT", help="serve a page and /metrics there")
     step = add("step", command_step, "take one batch: of the stream up to now, or of an event file")
     step.add_argument("batch", type=pathlib.Path, nargs="?", metavar="EVENTS", help="an event file; without it, the wiki's stream")
     step.add_argument("--seconds", type=float, default=60.0, help="read the stream for at most so long (60)")

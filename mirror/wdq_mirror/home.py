@@ -13,6 +13,7 @@ import uuid
 
 from . import files, settings as settings_of
 from .errors import Mismatch, Unreachable, Usage
+from .times import text_of
 
 FORMAT = "1"
 SCHEMA = """
@@ -172,6 +173,11 @@ class Home:
         return self.base.execute("SELECT 1 FROM given_up LIMIT 1").fetchone() is not None
 
     # --- Gaps and doubts ---
+
+    def note_gap(self, before: int, after: int) -> None:
+        """Keeps that the stream has lost what came between two messages, of which the latter may be late, as may be what was lost."""
+        late = self.settings.wiki.late_seconds * 1_000_000
+        self.add_gap(text_of(before - late), text_of(after + late))
 
     def add_gap(self, began: str, ended: str) -> None:
         """Keeps that the stream has lost what changed between two times."""

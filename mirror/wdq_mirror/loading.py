@@ -11,7 +11,7 @@ from .home import Era, Home, Position
 from .program import Program
 from .progress import Progress
 from .stores import Marks, Store
-from .terms import Triple, canonical, read_triple
+from .terms import LONGEST_IRI, Triple, canonical, read_triple
 from .times import text_of
 
 
@@ -26,7 +26,7 @@ async def load_dump(home: Home, program: Program, name: str, began: str, allow_f
         raise BadInput(f"the dump has {counts['fault']} bad lines, named above: get it again, or load it without them by --skip-bad-lines")
     saved = home.file("snapshots", 0)
     part = saved.with_suffix(".new")
-    words = ["replay", "--from", str(home.pages), "--max-bytes", str(2**40), *program.limits(False), "--save", str(part)]
+    words = ["replay", "--from", str(home.pages), "--max-bytes", str(2**40), *program.limits(), "--save", str(part)]
     await program.run(words, events, None)
     files.put(part, saved)
     mark, _ = snapshot.read_head(saved)
@@ -47,7 +47,7 @@ async def export(home: Home, program: Program, era: Era) -> typing.AsyncIterator
     if not saved.exists():
         raise Mismatch(f"{saved} isn't there: restore a backup (wdq-mirror restore)")
     scratch = home.path / "scratch"
-    words = ["replay", "--resume", str(saved), *program.limits(True), "--export", "--save", str(scratch)]
+    words = ["replay", "--resume", str(saved), *program.limits(), "--export", "--save", str(scratch)]
     child = await program.start(words, asyncio.subprocess.DEVNULL, asyncio.subprocess.PIPE)
     assert child.stdout
     try:
@@ -78,6 +78,9 @@ class Speller:
 
     def take(self, line: str) -> list[str]:
         """Takes the next triple, in the order of subject and predicate; gives the lines that are whole now."""
+        if "\\" not in line and (not self.counts or ('"' not in line and len(line) < LONGEST_IRI)):
+            # The store gets it as it is, which is most of them.
+            return [line]
         triple = read_triple(line)
         found = canonical(triple.object) if self.counts else None
         if not found:

@@ -53,10 +53,9 @@ class Program:
     def __init__(self, settings: Settings):
         self.path, self.settings = find(settings), settings
 
-    def limits(self, is_resumed: bool) -> list[str]:
+    def limits(self) -> list[str]:
         """The options that every run has. A snapshot has the horizon by itself, but wdq checks that it is the same."""
-        words = ["--max-terms", str(self.settings.program.max_terms)]
-        return words + ["--horizon", str(self.settings.horizon)]
+        return ["--max-terms", str(self.settings.program.max_terms), "--horizon", str(self.settings.horizon)]
 
     async def start(self, words: list[str], stdin: typing.Any, stdout: typing.Any) -> asyncio.subprocess.Process:
         """Starts wdq."""
@@ -88,10 +87,12 @@ class Program:
     def patches(self, pages: pathlib.Path, before: typing.Optional[pathlib.Path], save: pathlib.Path) -> list[str]:
         """The words that make the records of an era."""
         resumed = ["--resume", str(before)] if before else []
-        return ["patches", "--from", str(pages), "--max-bytes", str(MOST_INPUT), *self.limits(bool(before)), *resumed, "--save", str(save)]
+        return ["patches", "--from", str(pages), "--max-bytes", str(MOST_INPUT), *self.limits(), *resumed, "--save", str(save)]
 
-    async def saves_on_the_way(self) -> bool:
+    async def saves_on_the_way(self, scratch: pathlib.Path) -> bool:
         """Whether wdq can save in the middle of a run (--every N). Words that it doesn't understand give status 1."""
-        child = await self.start(["patches", "--save", os.devnull, "--every", "0", "--max-bytes", "0"], asyncio.subprocess.DEVNULL, asyncio.subprocess.DEVNULL)
+        nothing = asyncio.subprocess.DEVNULL
+        child = await self.start(["patches", "--save", str(scratch), "--every", "1"], nothing, nothing)
         await child.communicate()
+        scratch.unlink(missing_ok=True)
         return child.returncode != 1

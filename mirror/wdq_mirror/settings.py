@@ -62,6 +62,7 @@ class Wiki:
     delay_seconds: int = about(10, "how late an event may come")
     history_days: int = about(30, "how many days the wiki remembers its changes, to heal gaps; 0: for ever")
     silence_seconds: int = about(10, "a reconnection that passes over so many seconds of the stream is a gap")
+    late_seconds: int = about(600, "how late an event may come at most: gaps are healed from so long before they began to so long after they ended")
     fetches: int = about(4, "how many pages are fetched at a time")
     tries: int = about(6, "how often a request is made where the wiki is busy")
     pause_seconds: float = about(1.0, "the first pause before it is made again; it doubles")
@@ -75,6 +76,7 @@ class Program:
     max_terms: int = about(20_000_000, "the most distinct terms that the store may have")
     era_minutes: int = about(60, "wdq saves its state, and begins anew, after so many minutes of `run`")
     era_events: int = about(1_000_000, "or after so many event lines")
+    save_watermarks: int = about(3000, "or, where wdq can save without a new beginning, every so many watermarks instead")
     doubt_minutes: int = about(10, "or after so many minutes, if pages are missing: a new era asks for them again")
     keep_eras: int = about(100, "how many eras of pages, events and records are kept; 0 keeps all")
 

@@ -92,8 +92,7 @@ def keep_batch(home: Home, number: int, front: list[Event], batch: Batch) -> Non
         home.set_fact("place", batch.place)
         home.set_fact("seen", str(batch.seen))
         if batch.gap:
-            began, ended = batch.gap
-            home.add_gap(text_of(began - delay), text_of(ended + delay))
+            home.note_gap(*batch.gap)
 
 
 def take_file(home: Home, number: int, front: list[Event], path: pathlib.Path) -> None:
@@ -112,10 +111,9 @@ def take_file(home: Home, number: int, front: list[Event], path: pathlib.Path) -
     files.save(home.file("events", number), b"".join(line + b"\n" for line in lines))
 
 
-async def finish_open_era(tools: Tools) -> None:
-    """Runs the era whose events are there and which was cut short."""
-    number = tools.home.last_era().number + 1
-    if tools.home.file("events", number).exists():
+async def finish_open_eras(tools: Tools) -> None:
+    """Runs the eras whose events are there and which were cut short."""
+    while tools.home.file("events", number := tools.home.last_era().number + 1).exists():
         await eras.run(tools.home, tools.program, tools.pages, number)
 
 
@@ -147,7 +145,7 @@ async def take_present(tools: Tools, entities: list[str], gaps: list[typing.Any]
 async def prepare(tools: Tools) -> None:
     """What comes before new events: the store is the home's, and what was cut short is done."""
     sending.check_marks(tools.home, await tools.store.marks())
-    await finish_open_era(tools)
+    await finish_open_eras(tools)
     await sending.update(tools.home, tools.store)
 
 

@@ -112,8 +112,8 @@ class Stream:
     def __init__(self, settings: Settings, wiki: Wiki, place: str, since: str):
         self.settings, self.wiki, self.place, self.since = settings, wiki, place, since
         self.is_connected = False
-        # When bytes last came, by the clock that never jumps.
-        self.heard = 0.0
+        # When bytes last came, and when the connection began, by the clock that never jumps.
+        self.heard = self.connected = 0.0
         # Whether the stream has said since the last message that it has no more.
         self.is_quiet = False
 
@@ -153,7 +153,7 @@ class Stream:
         parser, is_first, clock = Messages(), True, asyncio.get_running_loop().time
         limit = aiohttp.ClientTimeout(total=None, sock_connect=30, sock_read=SECONDS_OF_SILENCE)
         async with self.wiki.session.get(self.settings.wiki.stream, timeout=limit, raise_for_status=True, **self.request()) as answer:
-            self.is_connected, self.heard = True, clock()
+            self.is_connected, self.heard, self.connected = True, clock(), clock()
             rest = b""
             async for chunk in answer.content.iter_any():
                 self.heard = clock()

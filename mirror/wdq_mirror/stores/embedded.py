@@ -1,7 +1,6 @@
 """The embedded store: quads in an SQLite file, which rdflib asks in SPARQL. Each update is one transaction."""
 
 import asyncio
-import json
 import pathlib
 import sqlite3
 import typing
@@ -9,7 +8,7 @@ import typing
 from ..errors import Unreachable, Usage
 from ..home import Position
 from ..settings import Mirror
-from ..terms import LINE, Iri, Literal, Triple, read_triple
+from ..terms import Iri, Triple, read_triple
 from . import Marks, Row
 
 SCHEMA = """
@@ -118,53 +117,12 @@ class EmbeddedStore:
 
     async def select(self, query: str) -> list[Row]:
         """The rows of a query, by rdflib."""
-        return await self.run(lambda: rows_of(self, query))
+        try:
+            from .rdflib_view import rows_of
+        except ImportError:
+            raise Usage("questions in SPARQL to the embedded store need rdflib: apt-get install python3-rdflib") from None
+        return await self.run(lambda: rows_of(self.base, query))
 
     async def close(self) -> None:
         """Closes the file."""
         self.base.close()
-
-
-def rows_of(store: EmbeddedStore, query: str) -> list[Row]:
-    """Asks rdflib, over the SQLite file as a store of its own."""
-    try:
-        import rdflib
-        import rdflib.store
-    except ImportError:
-        raise Usage("questions in SPARQL to the embedded store need rdflib: apt-get install python3-rdflib") from None
-    rdflib.NORMALIZE_LITERALS = False
-
-    def term_of(text: str) -> typing.Any:
-        match = LINE.fullmatch(f"<s:> <p:> {text} .")
-        term = read_triple(match.group()).object if match else None
-        if term is None:
-            raise Unreachable(f"the store has {text!r}, which is no term")
-        if hasattr(term, "tag"):
-            return rdflib.Literal(term.text, lang=term.tag or None, datatype=term.datatype or None)
-        return rdflib.URIRef(term.text)
-
-    class Plugin(rdflib.store.Store):
-        """The triples of the file, as rdflib asks for them."""
-
-        def triples(self, pattern: typing.Any, context: typing.Any = None) -> typing.Iterator[typing.Any]:
-            names = ("subject", "predicate", "object")
-            wanted = {name: text_of(term) for name, term in zip(names, pattern) if term is not None}
-            where = " AND ".join(f"{name} = ?" for name in wanted) or "1"
-            found = store.base.execute(f"SELECT subject, predicate, object FROM triples WHERE {where}", list(wanted.values()))
-            for row in found.fetchall():
-                yield tuple(map(term_of, row)), None
-
-        def __len__(self, context: typing.Any = None) -> int:
-            return store.base.execute("SELECT COUNT(*) FROM triples").fetchone()[0]
-
-    def text_of(term: typing.Any) -> str:
-        if isinstance(term, rdflib.URIRef):
-            return Iri(str(term)).sparql()
-        return Literal(str(term), term.language or "", str(term.datatype or "")).sparql()
-
-    try:
-        answer = rdflib.Graph(store=Plugin()).query(query).serialize(format="json")
-    except Exception as fault:
-        raise Usage(f"rdflib doesn't answer the question: {type(fault).__name__}: {fault}") from None
-    value = json.loads(answer)
-    return value["results"]["bindings"] if "results" in value else [{"answer": {"type": "literal", "value": str(value["boolean"]).lower()}}]
