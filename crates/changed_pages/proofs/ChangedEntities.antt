@@ -1,8 +1,8 @@
 -- The document of the second page, by what both pages have of their own.
 use Rattle.std.proofs.Common.{◌≡◌, ℕ, List, [], Option, Some, None, inl, inr, refl, sym, ap, subst, ◌∙◌}
 use Rattle.std.specs.Prelude.{codes}
-use Rattle.merging.specs.Merging.{Changes, Merges}
-use Rattle.merging.proofs.Merged.{merges-none}
+use Rattle.rising.specs.Merging.{Changes, Merges}
+use Rattle.rising.proofs.Merged.{merges-none}
 use Rattle.json_spell.specs.Tree.{Tree, member_of}
 use Rattle.json_differing.specs.Differing.{Differ}
 use Rattle.json_spell.proofs.Opened.{some_is}
@@ -13,7 +13,7 @@ use Rattle.entity_model.specs.declared.value.Tagged.{Tagged}
 use Rattle.entity_model.specs.declared.entity.Entity.{Entity}
 use Rattle.entity_model.specs.declared.entity.Link.{Link}
 use Rattle.entity_model.specs.declared.document.Document.TheVariants.{Entity as AnEntity}
-use Rattle.entity_change.specs.Changes.{EntityChanges}
+use Rattle.entity_model.specs.Changes.{EntityChanges}
 use Rattle.entity_json.specs.Joined.{One}
 use Rattle.entity_json.specs.Leaves.{◌>>=◌, optional, text_at, text_of}
 use Rattle.entity_json.specs.Links.{IsLink}

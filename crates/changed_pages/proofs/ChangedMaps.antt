@@ -2,8 +2,8 @@
 use Rattle.std.proofs.Common.{◌≡◌, ℕ, zero, List, [], ◌∷◌, ◌++◌, Option, Some, inl, inr, refl, sym, ap, subst, ◌∙◌}
 use Rattle.std.specs.Prelude.{◌⊎◌, ◌≢◌, codes}
 use Rattle.rising.specs.Rising.{In}
-use Rattle.merging.specs.Merging.{Merges}
-use Rattle.merging.proofs.Merged.{merges-none}
+use Rattle.rising.specs.Merging.{Merges}
+use Rattle.rising.proofs.Merged.{merges-none}
 use Rattle.json_spell.specs.Tree.{Tree, object, Pairs, member_of}
 use Rattle.json_spell.specs.View.{pairs_of}
 use Rattle.json_differing.specs.Differing.{AreApart, AreLess, AreObjects, Differ}
@@ -11,7 +11,7 @@ use Rattle.json_spell.proofs.Opened.{some_is}
 use Rattle.entity_model.specs.EntityId.{id_text}
 use Rattle.entity_model.specs.declared.id.EntityId.{EntityId}
 use Rattle.entity_model.specs.declared.statement.Statement.{Statement}
-use Rattle.entity_change.specs.Changes.{AreSeparate, StatementChanges}
+use Rattle.entity_model.specs.Changes.{AreSeparate, StatementChanges}
 use Rattle.entity_json.specs.Joined.{InMap, Joined, One, numbered}
 use Rattle.entity_json.specs.Leaves.{◌>>=◌}
 use Rattle.entity_json.specs.Maps.{entries, map_at, map_of}

@@ -8,7 +8,7 @@ use Rattle.entity_model.specs.declared.id.EntityId.{EntityId}
 use Rattle.entity_model.specs.declared.entity.Entity.{Entity}
 use Rattle.entity_model.specs.declared.document.Document.{Document}
 use Rattle.entity_model.specs.declared.document.Document.TheVariants.{Entity as AnEntity, Redirect, Lexeme as ALexeme}
-use Rattle.entity_change.specs.Changes.{EntityChanges}
+use Rattle.entity_model.specs.Changes.{EntityChanges}
 use Rattle.json_spell.specs.View.{json_view}
 use Rattle.json_differing.specs.Found.{AreDiffering}
 use Rattle.json_differing.specs.declared.differing.Differing.{Differing}

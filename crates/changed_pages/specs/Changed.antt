@@ -3,7 +3,7 @@ use Rattle.std.specs.Prelude.{◌≡◌, ℕ, Bool, cond, List, Some}
 use Rattle.entity_model.specs.declared.id.EntityId.{EntityId}
 use Rattle.entity_model.specs.declared.entity.Entity.{Entity}
 use Rattle.entity_model.specs.declared.document.Document.TheVariants.{Entity as AnEntity}
-use Rattle.entity_change.specs.Changes.{EntityChanges}
+use Rattle.entity_model.specs.Changes.{EntityChanges}
 use Rattle.changed_pages.specs.declared.changed.Changed.{Changed}
 use Rattle.entity_json.specs.Document.{document_of}
 

@@ -17,8 +17,8 @@ use Rattle.replay_model.specs.ReplayState.{ReplayState, following}
 use Rattle.replay_model.specs.Versions.{meaning_by}
 use Rattle.world.specs.Meaning.{meaning}
 use Rattle.world.specs.Roomed.{room_with}
-use Rattle.told_pages.proofs.Fits.{fits}
-use Rattle.told_pages.proofs.Named.{AreAmong, GivesThere, WorldNamed, end_named, entered_named, first_among, following_named, last_among, some_named, source_gives, wanted_named}
+use Rattle.drill_replay.proofs.Fits.{fits}
+use Rattle.drill_replay.proofs.Named.{AreAmong, GivesThere, WorldNamed, end_named, entered_named, first_among, following_named, last_among, some_named, source_gives, wanted_named}
 use Rattle.drill.specs.Drill.{IsSize, contents_of, drill}
 use Rattle.drill_replay.specs.Playing.{HasBegun, StandsAtEnd, StandsBetween, StandsWithin}
 use Rattle.drill_replay.specs.Summary.{replies_of}

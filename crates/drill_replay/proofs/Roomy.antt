@@ -20,11 +20,11 @@ use Rattle.replay_model.specs.Acceptance.{event_of, events}
 use Rattle.triple_store.specs.Room.{distinct, terms_of}
 use Rattle.triple_store.proofs.Distinct.{fewer}
 use Rattle.world.specs.Meaning.{meaning}
-use Rattle.told_pages.specs.Told.{keeps_page, page_events, terms_by, terms_there, triples_there, versions_told}
-use Rattle.told_pages.proofs.Gathered.{giver_of, in_either, in_front, in_rest}
+use Rattle.drill_replay.specs.Told.{keeps_page, page_events, terms_by, terms_there, triples_there, versions_told}
+use Rattle.drill_replay.proofs.Gathered.{giver_of, in_either, in_front, in_rest}
 use Rattle.drill.specs.Drill.{IsSize, contents_of, deletion, item_deliveries, drill, earlier_page, edits, event, item, late_edit, later_page, page_of, time_at}
-use Rattle.drill_pages.proofs.Covered.{Covered, distinct_few}
-use Rattle.drill_pages.proofs.Meant.{earlier_few, later_few}
+use Rattle.drill_replay.proofs.Covered.{Covered, distinct_few}
+use Rattle.drill_replay.proofs.Meant.{earlier_few, later_few}
 use Rattle.drill_replay.proofs.Versions.{no_versions}
 
 -- ---- events

@@ -1,2 +1,4 @@
 pub mod Playing
 pub mod Summary
+pub mod Trees
+pub mod Told

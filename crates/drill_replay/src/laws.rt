@@ -5,7 +5,7 @@ ghost use Rattle.delivery.specs.declared.Delivery.{Delivery};
 ghost use Rattle.entity_model.specs.declared.mapping.MappingVersion.{MappingVersion};
 ghost use Rattle.replay_model.specs.Acceptance.{version_in_force};
 ghost use Rattle.triple_store.specs.Room.{distinct};
-ghost use Rattle.told_pages.specs.Told.{terms_there};
+ghost use Rattle.drill_replay.specs.Told.{terms_there};
 ghost use Rattle.drill.specs.Drill.{IsSize, contents_of, drill};
 
 /// The first version of the mapping is in force after all deliveries of a drill, and after each first part of them.

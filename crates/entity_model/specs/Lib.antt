@@ -10,3 +10,4 @@ pub mod Snak
 pub mod Statement
 pub mod Lexeme
 pub mod Document
+pub mod Changes

@@ -5,8 +5,8 @@ use Rattle.std.specs.List.{flat_map, list_any}
 use Rattle.std.specs.Ordering.{eq_by_cmp}
 use Rattle.rising.specs.Rising.{In}
 use Rattle.rising.proofs.Bools.{equal}
-use Rattle.merging.specs.Merging.{Balance, IsWithin, Merges}
-use Rattle.merging.proofs.Balanced.{balance-append, balance-flat_map, balance-swap, changes_balance, merged_sum, same_sum, second-within, weighed_each, within-append, within-flat_map, within-same}
+use Rattle.rising.specs.Merging.{Balance, IsWithin, Merges}
+use Rattle.rising.proofs.Balanced.{balance-append, balance-flat_map, balance-swap, changes_balance, merged_sum, same_sum, second-within, weighed_each, within-append, within-flat_map, within-same}
 use Rattle.rdf_term.specs.declared.term.Term.{Term}
 use Rattle.rdf_term.specs.declared.triple.Triple.{Triple}
 use Rattle.entity_model.specs.EntityId.{entity_cmp, entity_cmp_same}
@@ -14,11 +14,11 @@ use Rattle.entity_model.specs.declared.id.EntityId.{EntityId}
 use Rattle.entity_model.specs.declared.statement.Statement.{Statement}
 use Rattle.entity_model.specs.declared.entity.Entity.{Entity}
 use Rattle.entity_model.specs.declared.mapping.MappingVersion.{MappingVersion}
-use Rattle.entity_change.specs.Changes.{AreSeparate, EntityChanges, StatementChanges}
+use Rattle.entity_model.specs.Changes.{AreSeparate, EntityChanges, StatementChanges}
 use Rattle.munger.specs.Munging.{munged}
 use Rattle.rdf_vocabulary.specs.Prefix.{entity_term}
 use Rattle.sitelinks.specs.Article.{article_triples}
-use Rattle.statement_ranks.specs.Ranking.{is_best, is_ranked_above, rank_number}
+use Rattle.statement_facts.specs.Ranking.{is_best, is_ranked_above, rank_number}
 use Rattle.statement_rdf.specs.Statement.{statement_triples}
 use Rattle.statement_rdf.specs.Statements.{judged_triples, statements_triples}
 use Rattle.page_rdf.specs.About.{alias_triples, class_triples, description_triples, label_triples, text_triples}

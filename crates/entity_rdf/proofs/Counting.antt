@@ -1,10 +1,10 @@
 -- The counts of a document that changed.
 use Rattle.std.proofs.Common.{◌≡◌, ℕ, ◌+◌, List, [], ◌∷◌, cond, length, inl, inr, refl, sym, ap, ◌∙◌, arith}
-use Rattle.merging.specs.Merging.{Changes, Merges}
-use Rattle.merging.proofs.Balanced.{merged_sum}
+use Rattle.rising.specs.Merging.{Changes, Merges}
+use Rattle.rising.proofs.Balanced.{merged_sum}
 use Rattle.entity_model.specs.declared.statement.Statement.{Statement}
 use Rattle.entity_model.specs.declared.entity.Entity.{Entity}
-use Rattle.entity_change.specs.Changes.{EntityChanges}
+use Rattle.entity_model.specs.Changes.{EntityChanges}
 use Rattle.page_rdf.specs.Dataset.{is_identifier}
 use Rattle.page_rdf.specs.declared.counts.Counts.{Counts}
 use Rattle.page_rdf.specs.Counted.{AreAfter, counts_of}

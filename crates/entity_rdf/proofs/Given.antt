@@ -12,7 +12,7 @@ use Rattle.entity_model.specs.declared.document.Document.{Document}
 use Rattle.entity_model.specs.declared.document.Document.TheVariants.{Entity as AnEntity, Redirect, Lexeme as ALexeme}
 use Rattle.entity_model.specs.declared.mapping.MappingVersion.{MappingVersion}
 use Rattle.rdf_vocabulary.specs.Prefix.{entity_term}
-use Rattle.statement_ranks.specs.Ranking.{is_best}
+use Rattle.statement_facts.specs.Ranking.{is_best}
 use Rattle.statement_rdf.proofs.Given.{statement_rules}
 use Rattle.statement_rdf.proofs.Members.{in_front, in_back, in_either, in_flat_map, flat_map_in}
 use Rattle.page_rdf.specs.Dataset.{change_triples, dataset_term, number_triples, page_triples}

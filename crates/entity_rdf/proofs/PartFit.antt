@@ -7,7 +7,7 @@ use Rattle.std.proofs.lemmas.Cmp.{tied_itself}
 use Rattle.std.proofs.lemmas.List.Sums.{sum_by-cons}
 use Rattle.rising.specs.Rising.{In}
 use Rattle.rising.proofs.Bools.{equal}
-use Rattle.merging.specs.Merging.{IsWithin}
+use Rattle.rising.specs.Merging.{IsWithin}
 use Rattle.rdf_term.specs.declared.triple.Triple.{Triple}
 use Rattle.rdf_term.specs.Fit.{HasFitAndShortTerms}
 use Rattle.rdf_term.specs.Order.{triple_cmp, triple_cmp-total}
@@ -17,7 +17,7 @@ use Rattle.entity_model.specs.declared.document.Document.TheVariants.{Entity as 
 use Rattle.entity_model.specs.declared.entity.Entity.{Entity}
 use Rattle.entity_model.specs.Document.{IsSmall}
 use Rattle.entity_model.specs.declared.mapping.MappingVersion.{MappingVersion}
-use Rattle.entity_change.specs.Changes.{EntityChanges}
+use Rattle.entity_model.specs.Changes.{EntityChanges}
 use Rattle.statement_rdf.proofs.Each.{of_each_member, of_member}
 use Rattle.entity_rdf.specs.Changing.{kept_list}
 use Rattle.page_rdf.specs.Counted.{counts_of}

@@ -21,7 +21,7 @@ use Rattle.rdf_vocabulary.specs.Prefix.{entity_term}
 use Rattle.rdf_vocabulary.specs.Resource.{class_triple, resource_term}
 use Rattle.sitelinks.specs.Article.{article_triples}
 use Rattle.statement_rdf.specs.Gives.{StatementGives}
-use Rattle.statement_ranks.specs.Ranking.{is_best}
+use Rattle.statement_facts.specs.Ranking.{is_best}
 use Rattle.lexeme_rdf.specs.Gives.{LexemeGives}
 use Rattle.page_rdf.specs.Dataset.{dataset_term, format_version, identifiers, number_term}
 use Rattle.page_rdf.specs.Texts.{tagged_term}

@@ -3,11 +3,11 @@
 ghost use Rattle.std.specs.Prelude.{ℕ};
 ghost use Rattle.std.specs.List.{AllByRecursion};
 ghost use Rattle.rdf_term.specs.Fit.{HasFitAndShortTerms};
-ghost use Rattle.merging.specs.Merging.{Balance, IsWithin};
+ghost use Rattle.rising.specs.Merging.{Balance, IsWithin};
 ghost use Rattle.entity_model.specs.{declared.id.EntityId.EntityId, declared.entity.Entity.Entity};
 ghost use Rattle.entity_model.specs.{declared.document.Document.TheVariants.Entity as AnEntity, Document.IsSmall};
 ghost use Rattle.entity_model.specs.declared.mapping.MappingVersion.{MappingVersion};
-ghost use Rattle.entity_change.specs.Changes.{EntityChanges};
+ghost use Rattle.entity_model.specs.Changes.{EntityChanges};
 ghost use Rattle.page_rdf.specs.Counted.{AreAfter, counts_of};
 ghost use Rattle.entity_rdf.specs.{Changing.kept_list, Counted.counted_kept};
 

@@ -8,8 +8,7 @@ ghost use Rattle.following.specs.Following.{replica_line, replica_text};
 use rdf_term::OutOfMemory;
 use replica::Replica;
 use std::alloc::Global;
-use text_output::{Unwritten, write_all};
-use triple_output::print_triples;
+use text_output::{Unwritten, print_triples, write_all};
 use wq_io::Sink;
 
 // Prints how many records were applied, and, where it is wanted, the section of the triples.

@@ -15,7 +15,7 @@ use Rattle.entity_model.specs.declared.value.Value.{Value}
 use Rattle.entity_model.specs.declared.value.Value.TheVariants.{Entity, Str, Time, Quantity, Globe, Mono, Other}
 use Rattle.entity_model.specs.EntityId.{entity_cmp}
 use Rattle.entity_model.specs.IdOf.{id_of}
-use Rattle.statement_ranks.specs.Ranking.{is_best}
+use Rattle.statement_facts.specs.Ranking.{is_best}
 use Rattle.graph_routes.specs.declared.routes.Route.{Route}
 
 -- P31, by which an entity is said to be an instance of a class

@@ -3,12 +3,12 @@
 ghost use Rattle.std.specs.Prelude.{◌≡◌, ◌≤◌, ◌++◌, length, map, IfOk, OnOk};
 ghost use Rattle.std.specs.{List.position_or_len, Option.option_to_list};
 ghost use Rattle.graph_routes.specs.Routing.{class_if, class_of, classes_said, leads, route_of};
-ghost use Rattle.statement_ranks.specs.Ranking.{is_best};
+ghost use Rattle.statement_facts.specs.Ranking.{is_best};
 
 use crate::routes::{Route, Routes};
 use base::{List, OutOfMemory};
 use entity_model::{Content, Document, EntityId, IdKind, Statement, Value};
-use statement_ranks::best;
+use statement_facts::best;
 use std::alloc::Global;
 
 // The property by which an entity is said to be an instance of a class.

@@ -2,7 +2,7 @@
 use Rattle.std.specs.Prelude.{◌≡◌, ◌≢◌, ◌⊎◌, ◌||◌, Bool, false, ℕ, zero, suc, List, [], ◌∷◌, map}
 use Rattle.std.specs.Str.{bytes_eq}
 use Rattle.rising.specs.Rising.{Each, In}
-use Rattle.merging.specs.Merging.{Changes}
+use Rattle.rising.specs.Merging.{Changes}
 use Rattle.json_spell.specs.Tree.{Tree, object, Pairs}
 use Rattle.json_spell.specs.View.{pairs_of}
 

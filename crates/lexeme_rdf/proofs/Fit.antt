@@ -17,12 +17,12 @@ use Rattle.munger.proofs.Fit.{sorted_each}
 use Rattle.page_rdf.proofs.Fit.{entity_fit}
 use Rattle.statement_rdf.specs.Statements.{statements_triples}
 use Rattle.statement_rdf.proofs.Fit.{statements_fit}
-use Rattle.lexeme_page_rdf.specs.Entry.{entry_triples, lemma_triples}
-use Rattle.lexeme_page_rdf.specs.Form.{form_triples}
-use Rattle.lexeme_page_rdf.specs.Page.{lexeme_page_triples}
-use Rattle.lexeme_page_rdf.specs.Part.{part_term}
-use Rattle.lexeme_page_rdf.specs.Sense.{sense_triples}
-use Rattle.lexeme_page_rdf.proofs.Fit.{entry_fit, form_fit, lexeme_page_fit, part_fit, sense_fit, texts_fit}
+use Rattle.page_rdf.specs.Entry.{entry_triples, lemma_triples}
+use Rattle.page_rdf.specs.Form.{form_triples}
+use Rattle.page_rdf.specs.LexemePage.{lexeme_page_triples}
+use Rattle.page_rdf.specs.Part.{part_term}
+use Rattle.page_rdf.specs.Sense.{sense_triples}
+use Rattle.page_rdf.proofs.LexemeFit.{entry_fit, form_fit, lexeme_page_fit, part_fit, sense_fit, texts_fit}
 use Rattle.lexeme_rdf.specs.Dump.{lexdump, part_triples, spoken_triples}
 use Rattle.lexeme_rdf.specs.Statements.{all_statements, part_statements}
 

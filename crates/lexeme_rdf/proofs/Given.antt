@@ -10,7 +10,7 @@ use Rattle.entity_model.specs.declared.mapping.MappingVersion.{MappingVersion}
 use Rattle.entity_model.specs.declared.statement.Statement.{Statement}
 use Rattle.entity_model.specs.declared.value.Tagged.{Tagged}
 use Rattle.rdf_vocabulary.specs.Prefix.{entity_term}
-use Rattle.statement_ranks.specs.Ranking.{is_best}
+use Rattle.statement_facts.specs.Ranking.{is_best}
 use Rattle.statement_rdf.proofs.Given.{statement_rules}
 use Rattle.statement_rdf.proofs.Members.{in_front, in_back, in_either, in_flat_map, flat_map_in}
 use Rattle.page_rdf.specs.Dataset.{change_triples, dataset_term, number_triples, page_triples}
@@ -19,17 +19,17 @@ use Rattle.entity_model.specs.declared.lexeme.Part.{Part}
 use Rattle.rdf_vocabulary.specs.declared.predicate.Predicate.{Predicate}
 use Rattle.rdf_vocabulary.specs.declared.predicate.Predicate.TheVariants as Say
 use Rattle.lexeme_rdf.specs.Dump.{lexdump, part_triples, spoken_triples}
-use Rattle.lexeme_page_rdf.specs.Entry.{entry_triples, lemma_triples}
-use Rattle.lexeme_page_rdf.specs.Form.{feature_triples, form_head, form_triples}
+use Rattle.page_rdf.specs.Entry.{entry_triples, lemma_triples}
+use Rattle.page_rdf.specs.Form.{feature_triples, form_head, form_triples}
 use Rattle.lexeme_rdf.specs.Gives.{EntryGives, lexical_entry, lexeme, language, category, TextGives, spelled, label, PageGives, dataset, dataset_about, license, format, revision, statement_count, identifier_count, modified}
 use Rattle.lexeme_rdf.specs.Gives.{FormGives, lexical_form, form_class, wikibase_form, representation, feature, SenseGives, lexical_sense, sense_class, wikibase_sense, gloss, OwnGives, one}
 use Rattle.lexeme_rdf.specs.Gives.{LexemeGives, entry, lemma, page, form, sense, statement, form_statement, sense_statement}
-use Rattle.lexeme_page_rdf.specs.Part.{part_term}
-use Rattle.lexeme_page_rdf.specs.Page.{lexeme_page_triples}
-use Rattle.lexeme_page_rdf.specs.Sense.{sense_head, sense_triples}
+use Rattle.page_rdf.specs.Part.{part_term}
+use Rattle.page_rdf.specs.LexemePage.{lexeme_page_triples}
+use Rattle.page_rdf.specs.Sense.{sense_head, sense_triples}
 use Rattle.statement_rdf.specs.Statements.{judged_triples, statements_triples}
 use Rattle.lexeme_rdf.specs.Statements.{all_statements, part_statements}
-use Rattle.lexeme_page_rdf.specs.Texts.{text_triples}
+use Rattle.page_rdf.specs.LexemeTexts.{text_triples}
 
 module _ (t : Triple) where
   -- a text of a node

@@ -6,10 +6,10 @@ use Rattle.entity_model.specs.declared.id.EntityId.{EntityId}
 use Rattle.entity_model.specs.declared.mapping.MappingVersion.{MappingVersion}
 use Rattle.rdf_vocabulary.specs.Prefix.{entity_term}
 use Rattle.entity_model.specs.declared.lexeme.Lexeme.{Lexeme}
-use Rattle.lexeme_page_rdf.specs.Entry.{entry_triples, lemma_triples}
-use Rattle.lexeme_page_rdf.specs.Form.{form_triples}
-use Rattle.lexeme_page_rdf.specs.Page.{lexeme_page_triples}
-use Rattle.lexeme_page_rdf.specs.Sense.{sense_triples}
+use Rattle.page_rdf.specs.Entry.{entry_triples, lemma_triples}
+use Rattle.page_rdf.specs.Form.{form_triples}
+use Rattle.page_rdf.specs.LexemePage.{lexeme_page_triples}
+use Rattle.page_rdf.specs.Sense.{sense_triples}
 use Rattle.lexeme_rdf.specs.Statements.{all_statements}
 
 -- what a page says of the lexeme and of itself

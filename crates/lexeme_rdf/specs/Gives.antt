@@ -16,14 +16,14 @@ use Rattle.rdf_vocabulary.specs.Predicate.{about}
 use Rattle.rdf_vocabulary.specs.Prefix.{entity_term}
 use Rattle.rdf_vocabulary.specs.Resource.{class_triple, resource_term}
 use Rattle.statement_rdf.specs.Gives.{StatementGives}
-use Rattle.statement_ranks.specs.Ranking.{is_best}
+use Rattle.statement_facts.specs.Ranking.{is_best}
 use Rattle.page_rdf.specs.Dataset.{dataset_term, format_version, identifiers, number_term}
 use Rattle.page_rdf.specs.Texts.{tagged_term}
 use Rattle.rdf_vocabulary.specs.declared.resource.Resource.TheVariants as Classes
 use Rattle.entity_model.specs.declared.lexeme.Lexeme.{Lexeme}
 use Rattle.entity_model.specs.declared.lexeme.Part.{Part}
 use Rattle.rdf_vocabulary.specs.declared.predicate.Predicate.{Predicate}
-use Rattle.lexeme_page_rdf.specs.Part.{part_term}
+use Rattle.page_rdf.specs.Part.{part_term}
 
 -- what is said of a lexeme itself
 pub data EntryGives (x : EntityId) (l : Lexeme) (t : Triple) : Type 0 where

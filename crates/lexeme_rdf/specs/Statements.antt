@@ -8,7 +8,7 @@ use Rattle.rdf_vocabulary.specs.Prefix.{entity_term}
 use Rattle.statement_rdf.specs.Statements.{statements_triples}
 use Rattle.entity_model.specs.declared.lexeme.Lexeme.{Lexeme}
 use Rattle.entity_model.specs.declared.lexeme.Part.{Part}
-use Rattle.lexeme_page_rdf.specs.Part.{part_term}
+use Rattle.page_rdf.specs.Part.{part_term}
 
 -- the statements of a form or a sense, each judged among them alone
 abbrev pub part_statements : MappingVersion → Part → List Triple

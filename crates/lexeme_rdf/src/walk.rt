@@ -6,7 +6,7 @@ ghost use Rattle.lexeme_rdf.specs.Dump.{lexdump};
 
 use crate::statements::emit_all_statements;
 use entity_model::{EntityId, Lexeme};
-use lexeme_page_rdf::{PartKind, emit_entry, emit_lexeme_page, emit_parts, emit_texts};
+use page_rdf::{PartKind, emit_entry, emit_lexeme_page, emit_parts, emit_texts};
 use rdf_term::OutOfMemory;
 use rdf_vocabulary::{Predicate, Prefix};
 use triple_sink::{Setting, TermRef, TripleSink};

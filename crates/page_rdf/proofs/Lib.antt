@@ -2,3 +2,4 @@ mod Capitals
 pub mod Fit
 pub mod SpokenFit
 mod TypeNames
+pub mod LexemeFit

@@ -4,3 +4,10 @@ pub mod Dataset
 pub mod Property
 pub mod Spoken
 pub mod Texts
+pub mod Entry
+pub mod Form
+pub mod LexemePage
+pub mod Part
+pub mod Parts
+pub mod Sense
+pub mod LexemeTexts

@@ -8,3 +8,5 @@ pub mod Members
 pub mod Pushes
 pub mod Rising
 pub mod Sorting
+pub mod Merged
+pub mod Balanced

@@ -14,10 +14,10 @@ use Rattle.entity_model.specs.declared.mapping.MappingVersion.TheVariants.{One}
 use Rattle.entity_model.specs.Event.{event_cmp}
 use Rattle.event_line.specs.declared.faults.LineCause.{LineCause}
 use Rattle.replay_model.specs.Acceptance.{event_of, events, mapping_of, version_in_force}
-use Rattle.told_pages.specs.Told.{versions_told}
+use Rattle.drill_replay.specs.Told.{versions_told}
 use Rattle.session.specs.Reading.{AreDeliveries, AreFirst, deliveries_of, line_delivers, onto_deliveries}
-use Rattle.told_pages.proofs.Gathered.{in_front, in_rest}
-use Rattle.told_pages.proofs.Named.{AreAmong}
+use Rattle.drill_replay.proofs.Gathered.{in_front, in_rest}
+use Rattle.drill_replay.proofs.Named.{AreAmong}
 
 -- the deliveries begin with these
 pub record Begins (ds first : List Delivery) : Type 0 where

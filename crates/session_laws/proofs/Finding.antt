@@ -24,7 +24,7 @@ use Rattle.replay_model.specs.Records.{Bytes, record_of}
 use Rattle.replay_model.specs.Replies.{Judgement, reply_there, source_replies}
 use Rattle.replay_model.proofs.Arrivals.{events_passing-push, play-push}
 use Rattle.replay_model.proofs.RecordOf.{entity_of, record-after, record_of-empty}
-use Rattle.told_pages.proofs.Named.{kept_after}
+use Rattle.drill_replay.proofs.Named.{kept_after}
 use Rattle.session_laws.specs.Complete.{FindsDocument, has_document}
 
 -- a document makes no entry

@@ -26,8 +26,8 @@ use Rattle.words.specs.Options.{max_bytes_of}
 use Rattle.session.specs.declared.stop.Stop.TheVariants.{StoreFull}
 use Rattle.session.specs.declared.stop.Halt.TheVariants.{Unapplied as NotApplied}
 use Rattle.term_pool.specs.declared.fault.PoolFault.TheVariants.{Full as NoRoom}
-use Rattle.told_pages.specs.Told.{terms_there, versions_told}
-use Rattle.told_pages.proofs.Fits.{ByTwoTold, fits}
+use Rattle.drill_replay.specs.Told.{terms_there, versions_told}
+use Rattle.drill_replay.proofs.Fits.{ByTwoTold, fits}
 use Rattle.session.specs.Headline.{StandsAtMapping, Stopped, StopsAtEnd, StopsWithin}
 use Rattle.session.specs.Course.{led_to, version_at}
 use Rattle.session.proofs.FromNothing.{led_first, version_first}
@@ -36,7 +36,7 @@ use Rattle.session.specs.Reading.{AreDeliveries}
 use Rattle.session.specs.Remapping.{HasNoRoom, IsFullOfStale, Mapped, mapped_by, next_stale_in, remapped_some}
 use Rattle.session.specs.Taking.{IsFull, entered_if_any, judgement, replies_there}
 use Rattle.session_laws.proofs.Beginnings.{Begins, begins-all, begins-events, begins-fewer, begins-in_force, begins-mapping, first_begins}
-use Rattle.told_pages.proofs.Named.{AreAmong, GivesThere, HoldsNamed, IsNamed, WorldNamed, end_named, entered_named, first_among, following_named, last_among, some_named, source_gives, wanted_named}
+use Rattle.drill_replay.proofs.Named.{AreAmong, GivesThere, HoldsNamed, IsNamed, WorldNamed, end_named, entered_named, first_among, following_named, last_among, some_named, source_gives, wanted_named}
 use Rattle.session.proofs.Reading.{at_known}
 
 -- ---- versions

@@ -8,7 +8,7 @@ use Rattle.entity_state.specs.State.{is_kept}
 use Rattle.replay_model.specs.Records.{Bytes}
 use Rattle.replay_model.specs.Replies.{Judgement, reply_there}
 use Rattle.replay_model.specs.Union.{Meaning}
-use Rattle.told_pages.specs.Told.{keeps_page, triples_there}
+use Rattle.drill_replay.specs.Told.{keeps_page, triples_there}
 use Rattle.patch_stream.specs.Stream.{Step}
 use Rattle.session.specs.Headline.{Ending, course_of}
 use Rattle.session.specs.Moment.{Moment, Run, start_of}

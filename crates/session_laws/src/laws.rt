@@ -35,7 +35,7 @@ ghost use Rattle.session.specs.Reading.{AreDeliveries};
 ghost use Rattle.session.specs.Resuming.{AllowsHorizon, IsNotResumed, IsResumed, ResumeEnding, with_loaded};
 ghost use Rattle.session.specs.{Moment.saved_at, Moment.sections_of, Stop.stop_of};
 ghost use Rattle.session.specs.{Remapping.IsFullOfStale, Remapping.held_triples, Remapping.mapped_by, Taking.IsFull, Taking.judgement};
-ghost use Rattle.told_pages.specs.Told.{terms_there};
+ghost use Rattle.drill_replay.specs.Told.{terms_there};
 
 use checkpoint_laws::no_line_of_a_saved_world_is_refused;
 use snapshot::{replays_can_be_saved, snapshots_read_back};

@@ -12,8 +12,7 @@ use crate::graphs::Graphs;
 use crate::lines::{graph_answer_line, graph_line};
 use rdf_term::Pattern;
 use std::alloc::Global;
-use text_output::Unwritten;
-use triple_output::print_section;
+use text_output::{Unwritten, print_section};
 use triple_store::Rows;
 use wq_io::Sink;
 

@@ -30,15 +30,15 @@ use Rattle.value_nodes.specs.Terms.{simple_term}
 use Rattle.value_nodes.proofs.Fit.{simple_term_fit}
 use Rattle.value_nodes.proofs.NodesFit.{node_triples_fit}
 use Rattle.entity_model.specs.declared.mapping.MappingVersion.{MappingVersion}
-use Rattle.statement_names.specs.declared.role.Role.{Role}
-use Rattle.statement_names.specs.declared.role.Role.TheVariants as Roles
-use Rattle.statement_names.specs.Node.{statement_node, reference_node}
-use Rattle.statement_ranks.specs.Ranking.{is_best}
-use Rattle.statement_names.specs.Role.{value_prefix, node_prefix}
+use Rattle.statement_facts.specs.declared.role.Role.{Role}
+use Rattle.statement_facts.specs.declared.role.Role.TheVariants as Roles
+use Rattle.statement_facts.specs.Node.{statement_node, reference_node}
+use Rattle.statement_facts.specs.Ranking.{is_best}
+use Rattle.statement_facts.specs.Role.{value_prefix, node_prefix}
 use Rattle.statement_rdf.specs.Snak.{link_triples, no_value_triple, content_triples, snak_triples}
 use Rattle.statement_rdf.specs.Statement.{direct_content, direct_triples, head_triples, main_triples, qualifier_triples, rank_resource, reference_triples, statement_triples, where_best}
 use Rattle.statement_rdf.specs.Statements.{judged_triples, statements_triples}
-use Rattle.statement_names.proofs.NamesFit.{statement_node_fit, reference_node_fit, blank_fit}
+use Rattle.statement_facts.proofs.NamesFit.{statement_node_fit, reference_node_fit, blank_fit}
 
 triple_fit : (subject predicate object : Term) → IsFitAndShort subject → IsFitAndShort predicate → IsFitAndShort object → HasFitAndShortTerms (triple subject predicate object)
 triple_fit subject predicate object s p o = record { subject = s; predicate = p; object = o }

@@ -20,11 +20,11 @@ use Rattle.value_nodes.specs.Nodes.{node_triples}
 use Rattle.value_nodes.specs.Said.{object_triples}
 use Rattle.value_nodes.specs.Terms.{simple_term}
 use Rattle.entity_model.specs.declared.mapping.MappingVersion.{MappingVersion}
-use Rattle.statement_names.specs.declared.role.Role.{Role}
-use Rattle.statement_names.specs.declared.role.Role.TheVariants as Roles
+use Rattle.statement_facts.specs.declared.role.Role.{Role}
+use Rattle.statement_facts.specs.declared.role.Role.TheVariants as Roles
 use Rattle.statement_rdf.specs.Gives.{SnakGives, simple_value, value_node, node_part, no_value, unknown_value, DirectGives, direct_value, direct_no_value, direct_unknown, StatementGives, claim, statement_class, statement_rank, best_rank, main_snak, best_snak, qualifier_snak, derived, source_class, source_snak}
-use Rattle.statement_names.specs.Node.{statement_node, reference_node}
-use Rattle.statement_names.specs.Role.{value_prefix, node_prefix}
+use Rattle.statement_facts.specs.Node.{statement_node, reference_node}
+use Rattle.statement_facts.specs.Role.{value_prefix, node_prefix}
 use Rattle.statement_rdf.specs.Snak.{link_triples, content_triples, snak_triples}
 use Rattle.statement_rdf.specs.Statement.{direct_content, direct_triples, head_triples, main_triples, qualifier_triples, reference_triples, statement_triples, where_best}
 use Rattle.statement_rdf.proofs.Members.{in_front, in_back, in_either, in_flat_map, flat_map_in}

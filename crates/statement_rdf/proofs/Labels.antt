@@ -27,7 +27,7 @@ use Rattle.wb_values.specs.Decimal.{is_decimal}
 use Rattle.value_nodes.specs.Name.{node_name, number_one, one}
 use Rattle.value_nodes.specs.Nodes.{bound_triples, named_triples, node_triples, precision_triples, unit_term, value_part_triples}
 use Rattle.value_nodes.specs.Terms.{amount_term, commons_media, simple_term, text_term, time_text_term, url}
-use Rattle.statement_names.specs.declared.role.Role.{Role}
+use Rattle.statement_facts.specs.declared.role.Role.{Role}
 use Rattle.statement_rdf.specs.Gives.{SnakGives, simple_value, value_node, node_part, no_value, unknown_value, DirectGives, direct_value, direct_no_value, direct_unknown, StatementGives, claim, statement_class, statement_rank, best_rank, main_snak, best_snak, qualifier_snak, derived, source_class, source_snak}
 use Rattle.munger.specs.Short.{has_short_label, HasShortLabels}
 use Rattle.statement_rdf.proofs.Each.{of_member}

@@ -19,11 +19,11 @@ use Rattle.value_nodes.specs.Name.{node_name}
 use Rattle.value_nodes.specs.Nodes.{node_triples}
 use Rattle.value_nodes.specs.Terms.{simple_term}
 use Rattle.entity_model.specs.declared.mapping.MappingVersion.{MappingVersion}
-use Rattle.statement_names.specs.declared.role.Role.{Role}
-use Rattle.statement_names.specs.declared.role.Role.TheVariants as Roles
-use Rattle.statement_names.specs.Node.{statement_node, reference_node}
-use Rattle.statement_names.specs.Role.{value_prefix, node_prefix}
-use Rattle.statement_names.specs.Label.{unknown_node}
+use Rattle.statement_facts.specs.declared.role.Role.{Role}
+use Rattle.statement_facts.specs.declared.role.Role.TheVariants as Roles
+use Rattle.statement_facts.specs.Node.{statement_node, reference_node}
+use Rattle.statement_facts.specs.Role.{value_prefix, node_prefix}
+use Rattle.statement_facts.specs.Label.{unknown_node}
 use Rattle.statement_rdf.specs.Statement.{rank_resource}
 
 -- a snak in this role of the statement with this id says the triple of its subject, or of the node of its value

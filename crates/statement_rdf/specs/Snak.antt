@@ -17,9 +17,9 @@ use Rattle.value_nodes.specs.Nodes.{node_triples}
 use Rattle.value_nodes.specs.Said.{object_triples}
 use Rattle.value_nodes.specs.Terms.{simple_term}
 use Rattle.entity_model.specs.declared.mapping.MappingVersion.{MappingVersion}
-use Rattle.statement_names.specs.Label.{unknown_node}
-use Rattle.statement_names.specs.declared.role.Role.{Role}
-use Rattle.statement_names.specs.Role.{value_prefix, node_prefix}
+use Rattle.statement_facts.specs.Label.{unknown_node}
+use Rattle.statement_facts.specs.declared.role.Role.{Role}
+use Rattle.statement_facts.specs.Role.{value_prefix, node_prefix}
 
 -- the triple that leads to the node of this name, where it is there
 abbrev pub link_triples : Term → Term → Option (List ℕ) → List Triple

@@ -21,9 +21,9 @@ use Rattle.rdf_vocabulary.specs.Resource.{class_triple, resource_term}
 use Rattle.value_nodes.specs.Said.{object_triples}
 use Rattle.value_nodes.specs.Terms.{simple_term}
 use Rattle.entity_model.specs.declared.mapping.MappingVersion.{MappingVersion}
-use Rattle.statement_names.specs.declared.role.Role.TheVariants as Roles
-use Rattle.statement_names.specs.Node.{statement_node, reference_node}
-use Rattle.statement_names.specs.Label.{unknown_node}
+use Rattle.statement_facts.specs.declared.role.Role.TheVariants as Roles
+use Rattle.statement_facts.specs.Node.{statement_node, reference_node}
+use Rattle.statement_facts.specs.Label.{unknown_node}
 use Rattle.statement_rdf.specs.Snak.{no_value_triple, snak_triples}
 
 -- the term of a rank

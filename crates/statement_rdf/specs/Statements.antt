@@ -5,7 +5,7 @@ use Rattle.rdf_term.specs.declared.term.Term.{Term}
 use Rattle.rdf_term.specs.declared.triple.Triple.{Triple}
 use Rattle.entity_model.specs.declared.statement.Statement.{Statement}
 use Rattle.entity_model.specs.declared.mapping.MappingVersion.{MappingVersion}
-use Rattle.statement_ranks.specs.Ranking.{is_best}
+use Rattle.statement_facts.specs.Ranking.{is_best}
 use Rattle.statement_rdf.specs.Statement.{statement_triples}
 
 -- a statement, best or not among all of the subject

@@ -10,7 +10,7 @@ ghost use Rattle.statement_rdf.specs.Snak.{link_triples, no_value_triple, snak_t
 use entity_model::{Content, EntityId, Snak, Value};
 use rdf_term::OutOfMemory;
 use rdf_vocabulary::{Predicate, Prefix};
-use statement_names::{Labels, Role};
+use statement_facts::{Labels, Role};
 use std::alloc::Global;
 use triple_sink::{Setting, Subject, TermRef, TripleSink};
 use value_nodes::{emit_parts, emit_simple, node_name};

@@ -9,7 +9,7 @@ use crate::snak::{emit_no_value, emit_object, emit_snak, emit_snaks};
 use entity_model::{Content, Rank, Reference, Snak, Statement};
 use rdf_term::{CowText, OutOfMemory};
 use rdf_vocabulary::{Predicate, Prefix, Resource};
-use statement_names::{Labels, Role, statement_name};
+use statement_facts::{Labels, Role, statement_name};
 use std::alloc::Global;
 use triple_sink::{Setting, Subject, TermRef, TripleSink, emit_about, emit_class};
 

@@ -3,13 +3,13 @@
 ghost use Rattle.std.specs.Prelude.{◌≡◌, ◌<◌, length, map, slice_index, OnOk};
 ghost use Rattle.std.specs.List.{flat_map};
 ghost use Rattle.triple_sink.specs.{Gains.Gains, Gains.KeepsFront, TermRef.meant};
-ghost use Rattle.statement_ranks.specs.Ranking.{is_best};
+ghost use Rattle.statement_facts.specs.Ranking.{is_best};
 ghost use Rattle.statement_rdf.specs.Statements.{judged_triples, statements_triples};
 
 use crate::statement::emit_statement;
 use entity_model::Statement;
 use rdf_term::{List, OutOfMemory};
-use statement_ranks::best;
+use statement_facts::best;
 use triple_sink::{Setting, TermRef, TripleSink};
 
 /// Emits the triples of the statements of the subject, each judged among them alone.

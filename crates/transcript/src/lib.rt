@@ -2,7 +2,7 @@
 //!
 //! What the bytes are is said by the definitions of `replay_model`; this crate writes them, or a prefix of them. `sections`
 //! has the answer to an ask and the sections, `bindings` that to a match; `states` and `entries` print the parts, and `lines` makes a line's
-//! text. The crate `triple_output` prints the triples.
+//! text. The crate `text_output` prints the triples.
 #![tactic(auto)]
 
 mod bindings;

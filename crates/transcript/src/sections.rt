@@ -13,8 +13,7 @@ use crate::lines::answer_line;
 use crate::states::print_states;
 use rdf_term::Pattern;
 use std::alloc::Global;
-use text_output::Unwritten;
-use triple_output::{print_section, print_triples};
+use text_output::{Unwritten, print_section, print_triples};
 use world::World;
 use wq_io::Sink;
 

@@ -2,7 +2,7 @@
 
 use entity_model::{Content, EntityId, Rank, Snak, Statement};
 use rdf_term::{CowText, List};
-use statement_ranks::best;
+use statement_facts::best;
 use std::alloc::Global;
 use std::test::Fail;
 

@@ -2,7 +2,7 @@
 use Rattle.std.proofs.Common.{◌≡◌, take}
 use Rattle.std.specs.List.{flat_map}
 use Rattle.std.specs.Option.{option_to_list}
-use Rattle.statement_ranks.specs.Ranking.{is_best}
+use Rattle.statement_facts.specs.Ranking.{is_best}
 use Rattle.graph_routes.specs.Routing.{class_if}
 use Rattle.graph_routes.proofs.routing.classes_of_best.Given as goal
 

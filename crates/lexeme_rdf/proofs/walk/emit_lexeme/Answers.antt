@@ -5,10 +5,10 @@ use Rattle.std.proofs.lemmas.Result.{on_ok_weaker}
 use Rattle.triple_sink.proofs.Gained.{gains_then}
 use Rattle.rdf_vocabulary.specs.Prefix.{entity_term}
 use Rattle.lexeme_rdf.specs.Dump.{lexdump}
-use Rattle.lexeme_page_rdf.specs.Entry.{entry_triples, lemma_triples}
-use Rattle.lexeme_page_rdf.specs.Form.{form_triples}
-use Rattle.lexeme_page_rdf.specs.Page.{lexeme_page_triples}
-use Rattle.lexeme_page_rdf.specs.Sense.{sense_triples}
+use Rattle.page_rdf.specs.Entry.{entry_triples, lemma_triples}
+use Rattle.page_rdf.specs.Form.{form_triples}
+use Rattle.page_rdf.specs.LexemePage.{lexeme_page_triples}
+use Rattle.page_rdf.specs.Sense.{sense_triples}
 use Rattle.lexeme_rdf.specs.Statements.{all_statements}
 use Rattle.lexeme_rdf.proofs.walk.emit_lexeme.Goals as goal
 

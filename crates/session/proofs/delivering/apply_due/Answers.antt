@@ -1,7 +1,7 @@
 -- One event more, and fewer wait.
 use Rattle.std.proofs.Common.{refl, ap, ◌∙◌, arith, Err, inl, inr, ⊎_elim}
 use Rattle.text_output.specs.Printing.{output}
-use Rattle.told_pages.proofs.Applying.{applies-fewer}
+use Rattle.drill_replay.proofs.Applying.{applies-fewer}
 use Rattle.term_pool.specs.declared.fault.PoolFault.TheVariants.{Full, OutOfMemory}
 use Rattle.splitting.specs.Graphs.{routes_of}
 use Rattle.splitting.proofs.Following.{may_be_sound}

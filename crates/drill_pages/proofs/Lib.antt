@@ -1,7 +1,0 @@
-mod Counted
-pub mod Covered
-pub mod Meant
-mod Pages
-mod Parts
-mod Printed
-mod Unwound

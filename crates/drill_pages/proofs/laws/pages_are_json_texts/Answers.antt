@@ -1,6 +1,0 @@
--- The pages are written as the values are.
-use Rattle.drill_pages.proofs.Pages.{earlier_read, later_read}
-use Rattle.drill_pages.proofs.laws.pages_are_json_texts.Goals as goal
-
-pub returns : goal.returns
-returns c = record { earlier = earlier_read; later = later_read }

@@ -1,0 +1,4 @@
+pub mod Label
+pub mod Node
+pub mod Role
+pub mod Ranking

@@ -1,3 +1,0 @@
-mod KeptParts
-mod Names
-pub mod NamesFit

@@ -1,3 +1,0 @@
-mod Alone
-mod Highest
-mod Raising

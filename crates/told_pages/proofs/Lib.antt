@@ -1,4 +1,0 @@
-pub mod Applying
-pub mod Fits
-pub mod Gathered
-pub mod Named
