@@ -8,14 +8,14 @@ use std::alloc::Global;
 use std::marker::Model;
 
 // Where the characters are.
-#[derive(Debug, Drop)]
+#[derive(Drop)]
 pub(crate) enum Part<'a> {
     Source(&'a str),
     Own(Text),
 }
 
 /// A text in UTF-8: a part of a longer text that it borrows, or one of its own. Contracts see the list of its bytes.
-#[derive(Debug, Drop)]
+#[derive(Drop)]
 pub struct CowText<'a> {
     part: Part<'a>,
 }

@@ -23,7 +23,7 @@ const ENTITIES: &[u8] = b"{\"entities\"";
 
 /// The parts that are gone from one page of an entity, and those that came to another: of the labels, descriptions, aliases, properties and
 /// links all that the other page doesn't have. The rest of each page stands in both.
-#[derive(Debug, Drop)]
+#[derive(Drop)]
 pub struct Changed<'a> {
     /// The first page, less what both have.
     pub gone: Entity<'a>,

@@ -8,7 +8,7 @@ use thiserror::Error;
 use wq_io::LineFault;
 
 /// Why no world was loaded.
-#[derive(Clone, Copy, Debug, PartialEq, Eq, Error)]
+#[derive(Clone, Copy, Debug, Error)]
 pub enum LoadFault {
     /// The source failed.
     #[error("read fault")]

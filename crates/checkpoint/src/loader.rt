@@ -22,7 +22,7 @@ use std::hash::RandomState;
 use world::{RestoreFault, World};
 
 /// How far the lines of a snapshot have come.
-#[derive(Clone, Copy, Debug, PartialEq, Eq)]
+#[derive(Clone, Copy)]
 pub enum Stage {
     /// The head is still to come.
     Unbegun,

@@ -10,7 +10,7 @@ use snapshot::Head;
 const MOST: u64 = 9_223_372_036_854_775_808;
 
 /// The counts of a run that the next one goes on with.
-#[derive(Clone, Copy, Debug, PartialEq, Eq)]
+#[derive(Clone, Copy, PartialEq, Eq)]
 pub struct Numbers {
     /// How many asks were answered.
     pub asks: u64,

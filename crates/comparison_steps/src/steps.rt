@@ -19,7 +19,7 @@ pub trait StepCounter {
 }
 
 /// No count: it takes no time.
-#[derive(Clone, Copy, Debug)]
+#[derive(Clone, Copy)]
 pub struct Uncounted;
 
 impl StepCounter for Uncounted {

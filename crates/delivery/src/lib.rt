@@ -6,7 +6,7 @@ use graph_query::Query;
 use rdf_term::Pattern;
 
 /// What one line of an event file delivers.
-#[derive(Debug, Drop)]
+#[derive(Drop)]
 pub enum Delivery {
     /// An event of an entity's page.
     Event(Event),

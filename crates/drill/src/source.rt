@@ -12,7 +12,7 @@ use std::marker::Model;
 
 /// The revisions of a drill, at every place the same: each is made when it is fetched, and nothing is kept.
 /// A fetch never answers `Failed`.
-#[derive(Debug, Drop)]
+#[derive(Drop)]
 pub struct DrillRevisions {
     size: u32,
     calls: u64,

@@ -6,7 +6,7 @@ ghost use Rattle.drill_replay.specs.Playing.{HasFew, with_answer};
 use reorder_buffer::Taken;
 
 /// How many deliveries were taken, and how many of their events were accepted and were late, each distinct one once.
-#[derive(Clone, Copy, Debug)]
+#[derive(Clone, Copy)]
 pub struct DrillCounts {
     pub deliveries: u64,
     pub accepted: u64,

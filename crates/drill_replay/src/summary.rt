@@ -20,7 +20,7 @@ use world::World;
 
 /// What is told of a drill: its size, its deliveries, how many distinct events were accepted and were late, how many
 /// entities' pages are kept and how many triples there are at its end, and the MD5 (RFC 1321) of the lines of these triples.
-#[derive(Clone, Copy, Debug, PartialEq, Eq)]
+#[derive(Clone, Copy, PartialEq, Eq)]
 pub struct Summary {
     pub size: u32,
     pub deliveries: u64,

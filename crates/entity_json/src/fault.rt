@@ -9,7 +9,7 @@ use json_spell::JsonFault;
 use thiserror::Error;
 
 /// Why bytes give no document.
-#[derive(Clone, Copy, Debug, PartialEq, Eq, Error)]
+#[derive(Clone, Copy, Debug, Error)]
 pub enum DocumentFault {
     /// The bytes are no document of the entity.
     #[error("the page is unfit")]

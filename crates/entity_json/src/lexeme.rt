@@ -19,7 +19,7 @@ use json_spell::Json;
 use std::alloc::Global;
 
 // A kind of parts of lexemes.
-#[derive(Clone, Copy, Debug)]
+#[derive(Clone, Copy)]
 pub enum PartKind {
     // Forms, as L1-F1.
     Form,

@@ -14,7 +14,7 @@ use json_spell::Json;
 use std::alloc::Global;
 
 /// The page of an entity.
-#[derive(Debug, Drop)]
+#[derive(Drop)]
 pub struct Page<'a> {
     /// The entity whose page it is.
     pub id: EntityId,

@@ -8,7 +8,7 @@ use base::OutOfMemory;
 use std::alloc::{AllocError, AllocFailed};
 
 /// Why a page, or a part of one, isn't read.
-#[derive(Clone, Copy, Debug)]
+#[derive(Clone, Copy)]
 pub enum PartFault {
     /// It breaks a rule of pages.
     Shape,

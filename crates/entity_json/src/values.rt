@@ -20,7 +20,7 @@ use json_spell::Json;
 use std::alloc::Global;
 
 // A type of entities that a value may name by number.
-#[derive(Clone, Copy, Debug)]
+#[derive(Clone, Copy)]
 pub enum NumberedType {
     // Properties, as P31.
     Property,

@@ -5,7 +5,7 @@ use crate::id::EntityId;
 use crate::lexeme::Lexeme;
 
 /// The document of an entity's page. Its texts are parts of the page where they can be.
-#[derive(Debug, Drop)]
+#[derive(Drop)]
 pub enum Document<'a> {
     /// The item or property, with all that its page says of it.
     Entity(Entity<'a>),

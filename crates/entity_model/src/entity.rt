@@ -6,7 +6,7 @@ use crate::value::Tagged;
 use base::{CowText, List};
 
 /// An item or a property, after Wikibase's JSON format. Lists are in the order of the page.
-#[derive(Debug, Drop)]
+#[derive(Drop)]
 pub struct Entity<'a> {
     /// The id: its letter says which of the two it is.
     pub id: EntityId,
@@ -27,7 +27,7 @@ pub struct Entity<'a> {
 }
 
 /// A link to an article of a site.
-#[derive(Debug, Drop)]
+#[derive(Drop)]
 pub struct Link<'a> {
     /// The site's id, as `enwiki`.
     pub site: CowText<'a>,

@@ -9,7 +9,7 @@ use crate::value::Tagged;
 use base::{CowText, List};
 
 /// A lexeme, after Wikibase's JSON format for lexemes. Lists are in the order of the page.
-#[derive(Debug, Drop)]
+#[derive(Drop)]
 pub struct Lexeme<'a> {
     /// The id.
     pub id: EntityId,
@@ -30,7 +30,7 @@ pub struct Lexeme<'a> {
 }
 
 /// A form or a sense of a lexeme.
-#[derive(Debug, Drop)]
+#[derive(Drop)]
 pub struct Part<'a> {
     /// The id, as `L1-F1` for a form and `L1-S1` for a sense.
     pub id: CowText<'a>,

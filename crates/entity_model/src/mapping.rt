@@ -1,7 +1,7 @@
 // The versions of the rules by which a page is mapped.
 
 /// The version of the rules by which a page is mapped to triples: which text the nodes of values are named by.
-#[derive(Clone, Copy, Debug, PartialEq, Eq)]
+#[derive(Clone, Copy, PartialEq, Eq)]
 pub enum MappingVersion {
     /// The parts of a value as the page spells them.
     One,

@@ -5,7 +5,7 @@ use crate::value::Value;
 use base::CowText;
 
 /// A property and what is said of its value.
-#[derive(Debug, Drop)]
+#[derive(Drop)]
 pub struct Snak<'a> {
     /// The property.
     pub property: EntityId,
@@ -18,7 +18,7 @@ pub struct Snak<'a> {
 }
 
 /// What is said of a property's value.
-#[derive(Debug, Drop)]
+#[derive(Drop)]
 pub enum Content<'a> {
     /// It is this.
     Value(Value<'a>),

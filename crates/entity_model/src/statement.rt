@@ -5,7 +5,7 @@ use crate::snak::Snak;
 use base::{CowText, List};
 
 /// How much a statement counts among those of its property.
-#[derive(Clone, Copy, Debug, PartialEq, Eq, PartialOrd, Ord)]
+#[derive(Clone, Copy, PartialEq, Eq, PartialOrd, Ord)]
 pub enum Rank {
     /// It is known to be wrong or outdated.
     Deprecated,
@@ -16,7 +16,7 @@ pub enum Rank {
 }
 
 /// A statement: a snak, what qualifies it, and where it is from.
-#[derive(Debug, Drop)]
+#[derive(Drop)]
 pub struct Statement<'a> {
     /// The statement's id, as `Q42$f078e5b3-f9a8-480e-b7ac-d97778cbbef9`.
     pub id: CowText<'a>,
@@ -33,7 +33,7 @@ pub struct Statement<'a> {
 }
 
 /// Where a statement is from.
-#[derive(Debug, Drop)]
+#[derive(Drop)]
 pub struct Reference<'a> {
     /// The hash of its snaks, 1 to 64 ASCII letters and digits.
     pub hash: CowText<'a>,

@@ -3,7 +3,7 @@
 use base::CowText;
 
 /// A data value, after Wikibase's JSON format. Numbers are as they are spelled there.
-#[derive(Debug, Drop)]
+#[derive(Drop)]
 pub enum Value<'a> {
     /// An entity, by its id.
     Entity(CowText<'a>),
@@ -22,7 +22,7 @@ pub enum Value<'a> {
 }
 
 /// A text and its language.
-#[derive(Debug, Drop)]
+#[derive(Drop)]
 pub struct Tagged<'a> {
     /// The text.
     pub text: CowText<'a>,
@@ -31,7 +31,7 @@ pub struct Tagged<'a> {
 }
 
 /// The parts of a time.
-#[derive(Debug, Drop)]
+#[derive(Drop)]
 pub struct TimeParts<'a> {
     /// The time, as `+2001-12-31T00:00:00Z`.
     pub time: CowText<'a>,
@@ -46,7 +46,7 @@ pub struct TimeParts<'a> {
 }
 
 /// The parts of a quantity.
-#[derive(Debug, Drop)]
+#[derive(Drop)]
 pub struct QuantityParts<'a> {
     /// The number.
     pub amount: CowText<'a>,
@@ -59,7 +59,7 @@ pub struct QuantityParts<'a> {
 }
 
 /// The parts of a coordinate.
-#[derive(Debug, Drop)]
+#[derive(Drop)]
 pub struct GlobeParts<'a> {
     /// The latitude in degrees, as it is spelled.
     pub latitude: CowText<'a>,

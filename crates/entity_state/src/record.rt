@@ -6,7 +6,7 @@ use crate::state::State;
 use entity_model::Event;
 
 /// A revision of an entity's page that was fetched.
-#[derive(Debug, Drop)]
+#[derive(Drop)]
 pub struct Held<H> {
     /// Its number.
     pub revision: u64,
@@ -15,7 +15,7 @@ pub struct Held<H> {
 }
 
 /// What is kept of one entity.
-#[derive(Debug, Drop)]
+#[derive(Drop)]
 pub struct Record<H> {
     /// What its applied events say of its page.
     pub state: State,

@@ -7,7 +7,7 @@ use crate::state::{Mode, State, step};
 use entity_model::{Event, Kind};
 
 /// The state of an entity, the number of the revision that it holds, and its last reconciliation.
-#[derive(Clone, Copy, Debug)]
+#[derive(Clone, Copy)]
 pub struct Standing {
     /// What the applied events of the entity say of its page.
     pub state: State,

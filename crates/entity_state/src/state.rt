@@ -6,7 +6,7 @@ ghost use Rattle.entity_state.specs.State.{state_after, unknown};
 use entity_model::{Event, Kind};
 
 /// Whether an entity's page is there.
-#[derive(Clone, Copy, PartialEq, Eq, Debug)]
+#[derive(Clone, Copy, PartialEq, Eq)]
 pub enum Mode {
     /// No event said so yet.
     Unknown,
@@ -17,7 +17,7 @@ pub enum Mode {
 }
 
 /// What the events of an entity that were applied so far say of its page.
-#[derive(Clone, Copy, PartialEq, Eq, Debug)]
+#[derive(Clone, Copy, PartialEq, Eq)]
 pub struct State {
     /// Whether the page is there.
     pub mode: Mode,

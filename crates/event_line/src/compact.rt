@@ -14,7 +14,7 @@ use digits::starts_above_zero;
 use entity_model::{EntityId, Event, Kind};
 
 // The kind of an event that has no member but these four.
-#[derive(Clone, Copy, PartialEq, Eq, Debug)]
+#[derive(Clone, Copy)]
 pub(crate) enum CompactKind {
     Edit,
     Delete,
@@ -22,7 +22,7 @@ pub(crate) enum CompactKind {
 }
 
 // The texts of the members of a line in this form.
-#[derive(Clone, Copy, Debug)]
+#[derive(Clone, Copy)]
 pub(crate) struct Compact<'a> {
     pub(crate) kind: CompactKind,
     pub(crate) entity: &'a [u8],

@@ -44,7 +44,7 @@ pub enum LineCause {
 }
 
 /// Why a line gave no delivery.
-#[derive(Clone, Copy, PartialEq, Eq, Debug, Error)]
+#[derive(Clone, Copy, Debug, Error)]
 pub enum DeliveryFault {
     /// The line delivers nothing.
     #[error("bad line: {0:?}")]

@@ -19,7 +19,7 @@ use std::alloc::Global;
 use term_reading::read_term;
 
 /// What `kind` says of an event. Of a reconciliation, `mode` says the rest.
-#[derive(Clone, Copy, PartialEq, Eq, Debug)]
+#[derive(Clone, Copy)]
 enum KindName {
     Edit,
     Delete,

@@ -9,7 +9,7 @@ use text_output::Unwritten;
 use wq_io::LineFault;
 
 /// Why a line of records is refused.
-#[derive(Clone, Copy, Debug, PartialEq, Eq)]
+#[derive(Clone, Copy, PartialEq, Eq)]
 pub enum RecordCause {
     /// The line has more than 134,217,728 bytes.
     LineLong,
@@ -24,7 +24,7 @@ pub enum RecordCause {
 }
 
 /// Why a follower stopped.
-#[derive(Clone, Copy, Debug, PartialEq, Eq)]
+#[derive(Clone, Copy, PartialEq, Eq)]
 pub enum FollowStop {
     /// The line with this number, from 1, is refused.
     BadLine(u64, RecordCause),

@@ -10,14 +10,14 @@ use std::alloc::Global;
 use std::marker::Model;
 
 /// A route: the graph with this name has the entities that are an instance of one of these classes.
-#[derive(Debug, Drop)]
+#[derive(Drop)]
 pub(crate) struct Route {
     pub(crate) name: Text,
     pub(crate) classes: List<EntityId>,
 }
 
 /// Routes of entities to graphs: one graph for each route, and a last one for all other entities. Contracts see the list of the routes.
-#[derive(Debug, Drop)]
+#[derive(Drop)]
 pub struct Routes {
     pub(crate) routes: List<Route>,
 }

@@ -8,7 +8,7 @@ use std::alloc::{AllocError, AllocFailed};
 use thiserror::Error;
 
 /// Why bytes were not read.
-#[derive(Clone, Copy, Debug, PartialEq, Eq, Error)]
+#[derive(Clone, Copy, Debug, Error)]
 pub enum JsonFault {
     /// Outside of strings, the opening brackets exceed the closing ones by more than 64 at some byte: a limit on the depth
     /// of nesting, which RFC 8259, section 9, allows.

@@ -14,7 +14,7 @@ use triple_sink::{Subject, TermRef, TripleSink};
 
 /// A sink that hands on to another what munging leaves of the triples of a page: it drops some, moves some from the
 /// page's dataset to the entity, and names blank nodes.
-#[derive(Debug, Drop)]
+#[derive(Drop)]
 pub struct Munged<S> {
     /// The page whose triples come.
     pub page: Page,

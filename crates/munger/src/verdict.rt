@@ -14,7 +14,7 @@ use std::alloc::Global;
 use triple_sink::TermRef;
 
 /// What becomes of a triple of the dump.
-#[derive(Clone, Copy, Debug, PartialEq, Eq)]
+#[derive(Clone, Copy, PartialEq, Eq)]
 pub(crate) enum Verdict {
     /// It is kept, and said of the entity in place of the dataset that describes it.
     Moved,
@@ -25,7 +25,7 @@ pub(crate) enum Verdict {
 }
 
 /// The page whose triples are judged: its entity, and the dataset that describes it.
-#[derive(Debug, Drop)]
+#[derive(Drop)]
 pub struct Page {
     /// The entity.
     pub id: EntityId,

@@ -7,7 +7,7 @@ use crate::dataset::identifiers;
 use entity_model::Entity;
 
 /// How many statements a page has, how many of them are identifiers in other databases, and how many site links it has.
-#[derive(Clone, Copy, Debug, PartialEq, Eq)]
+#[derive(Clone, Copy, PartialEq, Eq)]
 pub struct Counts {
     /// All statements.
     pub statements: usize,

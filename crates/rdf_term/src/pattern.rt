@@ -9,7 +9,7 @@ use crate::triple::Triple;
 use std::cmp::Ordering;
 
 /// What triples are asked for: a place that is `None` agrees with every term.
-#[derive(Debug, Drop)]
+#[derive(Drop)]
 pub struct Pattern {
     /// The subject that is wanted.
     pub subject: Option<Term>,

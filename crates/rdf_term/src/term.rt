@@ -6,7 +6,7 @@ use base::{OutOfMemory, Text};
 use std::alloc::Global;
 
 /// A term of RDF 1.1: an IRI, a blank node or a literal.
-#[derive(Debug, Drop, PartialEq, Eq)]
+#[derive(Drop, PartialEq, Eq)]
 pub enum Term {
     /// An IRI, without its angle brackets.
     Iri(Text),

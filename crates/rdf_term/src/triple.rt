@@ -12,7 +12,7 @@ use std::alloc::Global;
 use std::cmp::Ordering;
 
 /// A triple of RDF. Triples are ordered by the bytes of the canonical texts of subject, predicate and object.
-#[derive(Debug, Drop)]
+#[derive(Drop)]
 pub struct Triple {
     /// What the triple speaks of.
     pub subject: Term,

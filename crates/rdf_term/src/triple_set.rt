@@ -8,7 +8,7 @@ use base::{List, OutOfMemory};
 use std::marker::Model;
 
 /// A set of triples. Contracts see the list of its triples, which rises strictly.
-#[derive(Debug, Drop)]
+#[derive(Drop)]
 pub struct TripleSet {
     rows: List<Triple>,
 }

@@ -7,7 +7,7 @@ use rdf_term::{OutOfMemory, Term, Text};
 use std::alloc::Global;
 
 /// A datatype of literals (XML Schema 1.1 part 2; OGC GeoSPARQL).
-#[derive(Clone, Copy, Debug, PartialEq, Eq)]
+#[derive(Clone, Copy, PartialEq, Eq)]
 pub enum Datatype {
     /// `http://www.w3.org/2001/XMLSchema#integer`.
     Integer,

@@ -7,7 +7,7 @@ use rdf_term::{OutOfMemory, Term, Text};
 use std::alloc::Global;
 
 /// A predicate of the dump ("Wikibase RDF Dump Format").
-#[derive(Clone, Copy, Debug, PartialEq, Eq)]
+#[derive(Clone, Copy, PartialEq, Eq)]
 pub enum Predicate {
     /// `http://www.w3.org/1999/02/22-rdf-syntax-ns#type`.
     RdfType,

@@ -7,7 +7,7 @@ use rdf_term::{OutOfMemory, Term, Text};
 use std::alloc::Global;
 
 /// A namespace of IRIs that a name is put behind ("Wikibase RDF Dump Format", prefixes).
-#[derive(Clone, Copy, Debug, PartialEq, Eq)]
+#[derive(Clone, Copy, PartialEq, Eq)]
 pub enum Prefix {
     /// `http://www.wikidata.org/entity/`: an entity.
     Wd,

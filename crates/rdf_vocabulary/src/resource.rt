@@ -7,7 +7,7 @@ use rdf_term::{OutOfMemory, Term, Text};
 use std::alloc::Global;
 
 /// A class, a rank or the licence ("Wikibase RDF Dump Format").
-#[derive(Clone, Copy, Debug, PartialEq, Eq)]
+#[derive(Clone, Copy, PartialEq, Eq)]
 pub enum Resource {
     /// `http://wikiba.se/ontology#Item`.
     Item,

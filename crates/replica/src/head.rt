@@ -8,7 +8,7 @@ use rdf_term::OutOfMemory;
 use std::alloc::Global;
 
 /// What the first line of a record says: its number, and how many triples come and go.
-#[derive(Clone, Copy, Debug, Drop)]
+#[derive(Clone, Copy, Drop)]
 pub struct Head {
     pub number: u64,
     pub adds: u64,

@@ -33,7 +33,7 @@ pub enum PatchFault {
 }
 
 // A record whose first lines were read.
-#[derive(Debug, Drop)]
+#[derive(Drop)]
 struct Begun {
     head: Head,
     adds: List<Triple>,

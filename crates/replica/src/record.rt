@@ -9,7 +9,7 @@ use rdf_term::{OutOfMemory, Triple, TripleSet, write_triple};
 use std::alloc::Global;
 
 /// How the triples of a producer changed, once.
-#[derive(Debug, Drop)]
+#[derive(Drop)]
 pub struct PatchRecord {
     /// The place among the producer's records, from 1.
     pub number: u64,

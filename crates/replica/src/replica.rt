@@ -17,7 +17,7 @@ use std::marker::Model;
 use triple_store::{Rows, Store, StoreFault};
 
 /// Whether a record is new.
-#[derive(Clone, Copy, Debug, PartialEq, Eq)]
+#[derive(Clone, Copy, PartialEq, Eq)]
 pub enum Received {
     /// No record with this number was received before.
     Fresh,

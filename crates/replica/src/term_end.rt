@@ -7,7 +7,7 @@ ghost use Rattle.replica.specs.declared.term_end.TermState.TheVariants.{Outside}
 ghost use Rattle.replica.specs.TermEnd.{next_state, term_state_after, split_term};
 
 // Where a byte of a line stands.
-#[derive(Clone, Copy, Debug, Drop)]
+#[derive(Clone, Copy, Drop)]
 enum TermState {
     // Not between quotes.
     Outside,

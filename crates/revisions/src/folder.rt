@@ -14,7 +14,7 @@ use std::rt::Files;
 const LONGEST_READ: u64 = 8_388_609;
 
 /// The files `<place>/<rev>.json`, with the revision in decimal. It tells nothing of its contents.
-#[derive(Debug, Drop)]
+#[derive(Drop)]
 pub struct Folder<R: Files> {
     runtime: R,
     calls: u64,

@@ -14,7 +14,7 @@ use std::marker::Model;
 use wq_io::FailingCalls;
 
 /// The bytes of one revision: `place` is the folder that they are fetched from, and `rev` the number of the revision, from 1.
-#[derive(Debug, Drop)]
+#[derive(Drop)]
 pub struct RevisionBytes {
     pub place: Text,
     pub rev: u64,
@@ -22,7 +22,7 @@ pub struct RevisionBytes {
 }
 
 /// Revisions in memory; of two entries with equal place and revision the last stands.
-#[derive(Debug, Drop)]
+#[derive(Drop)]
 pub struct MemoryRevisions {
     entries: List<RevisionBytes>,
     failing: FailingCalls,

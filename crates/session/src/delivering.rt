@@ -22,7 +22,7 @@ use world::{Application, WorldFault};
 use wq_io::Sink;
 
 // What taking a delivery gave: what its event was, if it is one, and how many answers or records are written then.
-#[derive(Clone, Copy, Debug, PartialEq, Eq)]
+#[derive(Clone, Copy, PartialEq, Eq)]
 pub struct Delivered {
     pub answer: Option<Taken>,
     pub reported: u64,

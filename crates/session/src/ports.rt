@@ -1,7 +1,7 @@
 // What a run reads and writes.
 
 /// What a run reads and writes.
-#[derive(Debug, Drop)]
+#[derive(Drop)]
 pub struct Ports<S, R, K, F> {
     /// The input, whose lines are the deliveries.
     pub events: S,

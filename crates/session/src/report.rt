@@ -7,7 +7,7 @@ use checkpoint::Numbers;
 use triple_store::Telling;
 
 /// What a run reports of the deliveries that it takes.
-#[derive(Clone, Copy, Debug, PartialEq, Eq)]
+#[derive(Clone, Copy, PartialEq, Eq)]
 pub enum Report {
     /// The answers to questions.
     Answers,

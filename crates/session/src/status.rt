@@ -8,7 +8,7 @@ use rdf_term::{OutOfMemory, Text};
 use std::alloc::Global;
 
 /// How a run ended.
-#[derive(Clone, Copy, Debug, PartialEq, Eq)]
+#[derive(Clone, Copy, PartialEq, Eq)]
 pub enum Status {
     /// The input was read to its end, all due events were applied, and everything was written.
     Ok,

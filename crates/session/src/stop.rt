@@ -13,7 +13,7 @@ use triple_store::StoreFault;
 use wq_io::LineFault;
 
 /// At which step a delivery stopped.
-#[derive(Clone, Copy, Debug, PartialEq, Eq)]
+#[derive(Clone, Copy, PartialEq, Eq)]
 pub enum Halt {
     /// The least due event wasn't applied, and stays due; or a page wasn't remapped.
     Unapplied(StoreFault),
@@ -22,7 +22,7 @@ pub enum Halt {
 }
 
 /// Why a run stopped that was begun, or that was to go on from a snapshot.
-#[derive(Clone, Copy, Debug, PartialEq, Eq)]
+#[derive(Clone, Copy, PartialEq, Eq)]
 pub enum Stop {
     /// The line with this number, from 1, is refused.
     BadLine(u64, LineCause),

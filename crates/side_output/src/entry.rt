@@ -7,7 +7,7 @@ use entity_model::{EntityId, Event, Unfit};
 use entity_state::{Mode, State};
 
 /// Why a revision is not held although the state of its entity wants it.
-#[derive(Clone, Copy, PartialEq, Eq, Debug)]
+#[derive(Clone, Copy, PartialEq, Eq)]
 pub enum Cause {
     /// The source has no such revision.
     Missing,
@@ -18,7 +18,7 @@ pub enum Cause {
 }
 
 /// An entry of the side output.
-#[derive(Clone, Copy, PartialEq, Eq, Debug)]
+#[derive(Clone, Copy, PartialEq, Eq)]
 pub enum Entry {
     /// An event that came when the watermark had reached its time.
     Late(Event),

@@ -9,7 +9,7 @@ use std::alloc::Global;
 use std::marker::Model;
 
 /// The side output. Contracts see the list of its entries, and how many more go in without memory.
-#[derive(Debug, Drop)]
+#[derive(Drop)]
 pub struct Side {
     entries: Vec<Entry>,
 }

@@ -4,7 +4,7 @@ ghost use Rattle.std.specs.Prelude.{◌≡◌, option_map};
 ghost use Rattle.sitelinks.specs.Project.{coded, first_coded, project_group, project_suffix, without_suffix};
 
 /// A project of the Wikimedia Foundation with a site for each of many languages.
-#[derive(Clone, Copy, Debug, PartialEq, Eq)]
+#[derive(Clone, Copy, PartialEq, Eq)]
 pub(crate) enum Project {
     Wikibooks,
     Wikinews,

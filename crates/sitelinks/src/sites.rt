@@ -3,7 +3,7 @@
 use rdf_term::CowText;
 
 /// A site with articles. What its id spells out is borrowed from there.
-#[derive(Debug, Drop)]
+#[derive(Drop)]
 pub struct Site<'a> {
     /// What the IRIs of the site begin with, as `https://en.wikipedia.org/`.
     pub base: CowText<'a>,

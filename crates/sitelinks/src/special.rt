@@ -4,7 +4,7 @@ ghost use Rattle.std.specs.Prelude.{◌≡◌};
 ghost use Rattle.sitelinks.specs.Special.{special_base, special_group, special_of};
 
 /// A site whose name isn't made of a language and a project.
-#[derive(Clone, Copy, Debug, PartialEq, Eq)]
+#[derive(Clone, Copy, PartialEq, Eq)]
 pub(crate) enum SpecialSite {
     Commons,
     Meta,

@@ -6,7 +6,7 @@ ghost use Rattle.slot_index.specs.Patterns.{high, leads, low, turned_pattern};
 use slot_keys::Key;
 
 /// What triples of slots are asked for by: a place that is `None` agrees with every slot.
-#[derive(Clone, Copy, Debug)]
+#[derive(Clone, Copy)]
 pub struct SlotPattern {
     /// The subject's slot that is wanted, where the pattern isn't turned.
     pub first: Option<u32>,

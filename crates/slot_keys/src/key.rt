@@ -11,7 +11,7 @@ use std::cmp::Ordering;
 /// A triple of slots, ordered by the first, then the second, then the third. The triple itself has subject,
 /// predicate and object; turned once it has predicate, object and subject, and turned twice object, subject
 /// and predicate.
-#[derive(Clone, Copy, Debug)]
+#[derive(Clone, Copy)]
 pub struct Key {
     /// The subject's slot, where the triple isn't turned.
     pub first: u32,

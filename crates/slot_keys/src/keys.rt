@@ -15,7 +15,7 @@ pub const NOWHERE: u32 = u32::MAX;
 
 /// The keys of the triples that one owner has, each once, in rising order; beside them their places in the order in which the
 /// owner's triples came. The places are a hint that makes an exchange quick, since what stays mostly comes in that order again.
-#[derive(Debug, Drop)]
+#[derive(Drop)]
 pub struct Keys {
     pub(crate) rising: Vec<Key>,
     pub(crate) walk: Vec<u32>,
@@ -23,7 +23,7 @@ pub struct Keys {
 
 /// The keys of one owner, borrowed: `rising` has each key once, in rising order, and `walk` the index in it of each triple, in the order in
 /// which the owner's triples came.
-#[derive(Clone, Copy, Debug)]
+#[derive(Clone, Copy)]
 pub struct KeySlices<'a> {
     pub rising: &'a [Key],
     pub walk: &'a [u32],

@@ -10,7 +10,7 @@ use base::OutOfMemory;
 use std::alloc::Global;
 
 /// A term that is there: its canonical text, and its slot.
-#[derive(Clone, Copy, Debug)]
+#[derive(Clone, Copy)]
 pub struct SlotText<'a> {
     pub text: &'a [u8],
     pub slot: u32,

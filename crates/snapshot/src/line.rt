@@ -6,7 +6,7 @@ use rdf_term::Text;
 use side_output::Entry;
 
 /// What a snapshot says before its other lines.
-#[derive(Clone, Copy, Debug)]
+#[derive(Clone, Copy)]
 pub struct Head {
     /// The greatest watermark so far, in microseconds since 1970-01-01T00:00:00Z.
     pub mark: Option<i64>,
@@ -23,7 +23,7 @@ pub struct Head {
 }
 
 /// One line of a snapshot.
-#[derive(Debug, Drop)]
+#[derive(Drop)]
 pub enum Line {
     /// What is said once, before everything else.
     Head(Head),

@@ -17,7 +17,7 @@ use std::marker::Model;
 
 /// Makes the labels of a statement's unknown values. Each label hashes the statement's id first. The id may be long, so it is hashed once,
 /// for the first label. Contracts see the id.
-#[derive(Debug, Drop)]
+#[derive(Drop)]
 pub struct Labels<'a> {
     id: &'a str,
     begun: Option<Md5>,

@@ -8,7 +8,7 @@ use rdf_vocabulary::Prefix;
 use std::alloc::Global;
 
 /// The role in which a snak stands in a statement.
-#[derive(Debug, Drop)]
+#[derive(Drop)]
 pub enum Role<'a> {
     /// It is what is stated.
     Main,

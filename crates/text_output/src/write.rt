@@ -7,7 +7,7 @@ use base::OutOfMemory;
 use wq_io::{NoWrite, Sink};
 
 /// Why not all was written.
-#[derive(Clone, Copy, Debug, PartialEq, Eq)]
+#[derive(Clone, Copy, PartialEq, Eq)]
 pub enum Unwritten {
     /// The output could not be written.
     WriteFault,

@@ -18,7 +18,7 @@ use world::World;
 use wq_io::Sink;
 
 /// Which sections are printed after the end.
-#[derive(Clone, Copy, Debug, PartialEq, Eq)]
+#[derive(Clone, Copy, PartialEq, Eq)]
 pub struct Sections {
     /// The export: the triples of the world.
     pub export: bool,

@@ -3,7 +3,7 @@
 use rdf_term::TripleSet;
 
 /// What changes from one set of triples to another.
-#[derive(Debug, Drop)]
+#[derive(Drop)]
 pub struct Patch {
     /// The triples that come.
     pub adds: TripleSet,

@@ -14,7 +14,7 @@ use text_region::Region;
 use triple_texts::TripleText;
 
 // Triples whose terms are named by their ranks: the indices in a rising list of texts.
-#[derive(Debug, Drop)]
+#[derive(Drop)]
 pub(crate) struct Ranked<'a> {
     pub(crate) terms: Vec<SlotText<'a>>,
     pub(crate) keys: Vec<Key>,

@@ -27,13 +27,13 @@ use text_region::Region;
 use triple_texts::TripleText;
 
 /// Stored triples in strictly rising order, whose texts lie in the region. Contracts see the list of the triples.
-#[derive(Debug, Drop)]
+#[derive(Drop)]
 pub struct Rows<'a> {
     found: Found<'a>,
 }
 
 // Triples by the texts of their terms, or by the ranks of these.
-#[derive(Debug, Drop)]
+#[derive(Drop)]
 pub(crate) enum Found<'a> {
     ByTexts(Vec<TripleText<'a>>),
     ByRanks(Ranked<'a>),

@@ -15,7 +15,7 @@ use slot_keys::{Key, find_from};
 use text_region::Region;
 
 /// Whether a call tells what it changed of the stored triples.
-#[derive(Clone, Copy, Debug, PartialEq, Eq)]
+#[derive(Clone, Copy, PartialEq, Eq)]
 pub enum Telling {
     /// It tells nothing, and pays nothing for it.
     Nothing,
@@ -24,14 +24,14 @@ pub enum Telling {
 }
 
 /// The lines of triples in rising order, each with its LF, and the number of the triples.
-#[derive(Debug, Drop)]
+#[derive(Drop)]
 pub struct TripleLines {
     pub count: usize,
     pub text: Vec<u8>,
 }
 
 /// The triples that a call made stored, and those that it made stored no longer.
-#[derive(Debug, Drop)]
+#[derive(Drop)]
 pub struct Change {
     pub came: TripleLines,
     pub gone: TripleLines,

@@ -17,7 +17,7 @@ use triple_patch::Patch;
 use triple_texts::TripleTexts;
 
 /// What an exchange gives.
-#[derive(Debug, Drop)]
+#[derive(Drop)]
 pub struct Exchange {
     /// The keys of the triples that the owner has from now on.
     pub keys: Keys,

@@ -14,14 +14,14 @@ use std::marker::Model;
 use triple_sink::TermRef;
 
 // A word, and where its text lies.
-#[derive(Clone, Copy, Debug)]
+#[derive(Clone, Copy)]
 pub(crate) struct PlacedWord {
     pub(crate) word: Word,
     pub(crate) span: Span,
 }
 
 // Texts one behind the other, and where those of words lie: at each index the last word that came there. Contracts see the bytes.
-#[derive(Debug, Drop)]
+#[derive(Drop)]
 pub(crate) struct Buffer {
     bytes: Vec<u8>,
     words: Vec<PlacedWord>,

@@ -4,7 +4,7 @@ ghost use Rattle.std.specs.Prelude.{◌≡◌, ◌≤◌, length, IsTrue};
 ghost use Rattle.triple_texts.specs.Spans.{span_end, text_in};
 
 // Where a text begins in a buffer, and its length, in bytes.
-#[derive(Clone, Copy, Debug)]
+#[derive(Clone, Copy)]
 pub(crate) struct Span {
     pub(crate) start: u32,
     pub(crate) len: u32,

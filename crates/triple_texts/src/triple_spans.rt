@@ -7,7 +7,7 @@ use crate::span::Span;
 use crate::triple_text::TripleText;
 
 // Where the three texts of a triple lie. That of the subject may be a triple's before it.
-#[derive(Clone, Copy, Debug)]
+#[derive(Clone, Copy)]
 pub(crate) struct TripleSpans {
     pub(crate) subject: Span,
     pub(crate) predicate: Span,

@@ -1,7 +1,7 @@
 // The texts of a triple.
 
 /// The canonical texts of a triple's terms, as N-Triples writes them.
-#[derive(Clone, Copy, Debug)]
+#[derive(Clone, Copy)]
 pub struct TripleText<'a> {
     /// That of what the triple speaks of.
     pub subject: &'a [u8],

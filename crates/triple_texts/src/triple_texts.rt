@@ -18,7 +18,7 @@ use triple_sink::{Subject, TermRef, TripleSink};
 const TRIPLE_BYTES: usize = 128;
 
 /// Triples by the canonical texts of their terms, in the order in which they came. Contracts see the triples.
-#[derive(Debug, Drop)]
+#[derive(Drop)]
 pub struct TripleTexts {
     buffer: Buffer,
     all_spans: Vec<TripleSpans>,

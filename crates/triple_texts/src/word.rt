@@ -19,7 +19,7 @@ const IDS: usize = 128;
 pub(crate) const INDICES: usize = PREDICATES + RESOURCES + IDS;
 
 // A term by its word in the vocabulary, or by its namespace and its id.
-#[derive(Clone, Copy, Debug)]
+#[derive(Clone, Copy)]
 pub(crate) enum Word {
     Predicate(Predicate),
     Resource(Resource),

@@ -7,14 +7,14 @@ ghost use Rattle.wb_values.specs.Calendar.{is_leap_year, days_in_month, days_of_
 use jiff_core::civil::Date;
 
 /// A calendar with twelve months whose years differ in their leap days alone.
-#[derive(Clone, Copy, Debug, PartialEq, Eq)]
+#[derive(Clone, Copy, PartialEq, Eq)]
 pub(crate) enum Calendar {
     Julian,
     Gregorian,
 }
 
 /// A day of a calendar. The year before the year 1 is the year 0.
-#[derive(Clone, Copy, Debug, PartialEq, Eq)]
+#[derive(Clone, Copy, PartialEq, Eq)]
 pub(crate) struct CalendarDate {
     pub(crate) year: i64,
     pub(crate) month: u8,

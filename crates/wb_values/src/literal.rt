@@ -15,7 +15,7 @@ use std::alloc::Global;
 const USUAL_LENGTH: usize = 24;
 
 /// The text of a literal that stands for a time.
-#[derive(Debug, Drop)]
+#[derive(Drop)]
 pub enum TimeText<'a> {
     /// An `xsd:dateTime` of XML Schema 1.1 in the proleptic Gregorian calendar, with a year 0.
     DateTime(CowText<'a>),

@@ -10,7 +10,7 @@ use crate::table::{Command, ValueKind, has_value};
 use std::marker::Model;
 
 /// An item as the arguments have it.
-#[derive(Debug, Drop)]
+#[derive(Drop)]
 pub struct Item<'a> {
     name: &'a str,
     value: Option<&'a str>,
@@ -26,7 +26,7 @@ impl<'a> Model for Item<'a> {
 }
 
 /// The arguments after a command, which are items of its table, each at most once and each with a value that fits.
-#[derive(Debug, Drop)]
+#[derive(Drop)]
 pub struct Request<'a> {
     command: Command,
     words: &'a [String],

@@ -18,7 +18,7 @@ const MAX_BYTES: u64 = 1_073_741_824;
 const MAX_TERMS: u32 = 20_000_000;
 
 /// What a replay or a patch stream is asked for, as the arguments say it. A patch stream has no sections.
-#[derive(Debug, Drop)]
+#[derive(Drop)]
 pub struct ReplayOptions<'a> {
     folder: Option<&'a str>,
     max_bytes: Option<u64>,
@@ -160,7 +160,7 @@ fn max_terms_in(items: &Request<'_>) -> Option<u32>
 }
 
 /// What a follower is asked for, as the arguments say it.
-#[derive(Debug, Drop)]
+#[derive(Drop)]
 pub struct FollowOptions {
     max_bytes: Option<u64>,
     export: bool,
@@ -206,7 +206,7 @@ impl FollowOptions {
 }
 
 /// What a split is asked for, as the arguments say it.
-#[derive(Debug, Drop)]
+#[derive(Drop)]
 pub struct SplitOptions<'a> {
     route: &'a str,
     replay: ReplayOptions<'a>,

@@ -8,7 +8,7 @@ use crate::options::{FollowOptions, ReplayOptions, SplitOptions};
 use crate::table::Command;
 
 /// What the arguments ask for.
-#[derive(Debug, Drop)]
+#[derive(Drop)]
 pub enum Plan<'a> {
     /// To replay the event lines of the input.
     Replay(ReplayOptions<'a>),

@@ -4,7 +4,7 @@ ghost use Rattle.std.specs.Prelude.{◌≡◌};
 ghost use Rattle.words.specs.Table.{command_named, drill_table, follow_table, has_value, kind_in, patches_table, replay_table, split_table, table_of};
 
 /// What an item has as its value.
-#[derive(Clone, Copy, Debug, PartialEq, Eq)]
+#[derive(Clone, Copy)]
 pub enum ValueKind {
     /// No value.
     Flag,
@@ -15,7 +15,7 @@ pub enum ValueKind {
 }
 
 /// A command of the program.
-#[derive(Clone, Copy, Debug, PartialEq, Eq)]
+#[derive(Clone, Copy)]
 pub enum Command {
     /// To replay the event lines of the input.
     Replay,

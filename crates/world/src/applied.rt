@@ -11,7 +11,7 @@ use triple_store::{Change, Telling};
 use triple_texts::TripleTexts;
 
 /// What the application of an event did to what its entity holds.
-#[derive(Clone, Copy, Debug, PartialEq, Eq)]
+#[derive(Clone, Copy, PartialEq, Eq)]
 pub enum Outcome {
     /// Nothing.
     Same,
@@ -24,14 +24,14 @@ pub enum Outcome {
 }
 
 /// How what an entity holds is changed: by which version its page is mapped, and whether the change of the stored triples is told.
-#[derive(Clone, Copy, Debug, PartialEq, Eq)]
+#[derive(Clone, Copy, PartialEq, Eq)]
 pub struct Handling {
     pub version: MappingVersion,
     pub telling: Telling,
 }
 
 /// An event that was applied.
-#[derive(Clone, Copy, Debug, PartialEq, Eq)]
+#[derive(Clone, Copy, PartialEq, Eq)]
 pub struct Applied {
     pub event: Event,
     pub outcome: Outcome,

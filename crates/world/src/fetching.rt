@@ -75,7 +75,7 @@ pub struct Beside<'a> {
 }
 
 /// The revision of an entity that is to be fetched, and the version of the mapping by which it is mapped.
-#[derive(Clone, Copy, Debug)]
+#[derive(Clone, Copy)]
 pub struct Wanted {
     pub id: EntityId,
     pub rev: u64,

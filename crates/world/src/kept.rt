@@ -11,7 +11,7 @@ use text_region::Piece;
 use triple_store::{KeySlices, Keys};
 
 /// Where the bytes of a document lie in the region, the keys of its triples in the store, and what is known of how often these come.
-#[derive(Debug, Drop)]
+#[derive(Drop)]
 pub struct Kept {
     pub piece: Piece,
     pub keys: Keys,
@@ -20,7 +20,7 @@ pub struct Kept {
 
 /// What is known of the page of an item or a property: its counts, and how many times the triple of each key comes, in the order of the
 /// keys. The times are empty where they aren't known.
-#[derive(Debug, Drop)]
+#[derive(Drop)]
 pub struct PageTimes {
     pub counts: Counts,
     pub times: Vec<u16>,

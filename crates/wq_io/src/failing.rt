@@ -8,7 +8,7 @@ use base::List;
 use std::marker::Model;
 
 /// Counts calls from 1, and names those that are to fail.
-#[derive(Debug, Drop)]
+#[derive(Drop)]
 pub struct FailingCalls {
     numbers: List<u64>,
     calls: u64,

@@ -17,7 +17,7 @@ const BUFFER: usize = 4_096;
 const LONGEST_LINE: u64 = 65_536;
 
 /// Why there is no next line.
-#[derive(Clone, Copy, Debug, PartialEq, Eq, Error)]
+#[derive(Clone, Copy, Debug, Error)]
 pub enum LineFault {
     /// The source failed.
     #[error("read fault")]
@@ -35,7 +35,7 @@ pub enum LineFault {
 
 /// Splits a source at its line feeds, and reads no further than it has to. It reads only if the bytes that it holds decide neither a line
 /// nor a fault. Each read asks for 4,096 bytes, or up to the byte after the limit if that is fewer. After a failed read it makes no other.
-#[derive(Debug, Drop)]
+#[derive(Drop)]
 pub struct Lines {
     buffer: [u8; BUFFER],
     start: usize,

@@ -13,7 +13,7 @@ use std::alloc::Global;
 use std::marker::Model;
 
 // The last read of a source.
-#[derive(Debug, Drop)]
+#[derive(Drop)]
 struct NotedRead {
     asked: usize,
     gave: usize,
@@ -53,7 +53,7 @@ impl NotedRead {
 }
 
 /// A source over bytes in memory.
-#[derive(Debug, Drop)]
+#[derive(Drop)]
 pub struct MemorySource {
     bytes: Vec<u8>,
     at: usize,
@@ -145,7 +145,7 @@ impl Source for MemorySource {
 }
 
 /// A sink that keeps its bytes in memory.
-#[derive(Debug, Drop)]
+#[derive(Drop)]
 pub struct MemorySink {
     bytes: Vec<u8>,
     piece: usize,

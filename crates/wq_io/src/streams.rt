@@ -8,7 +8,7 @@ use crate::source::{Failed, Source};
 use std::io::{Read, Write};
 
 /// A source over any reader, as standard input.
-#[derive(Debug, Drop)]
+#[derive(Drop)]
 pub struct StdSource<R: Read> {
     reader: R,
     faults: u64,
@@ -51,7 +51,7 @@ impl<R: Read> Source for StdSource<R> {
 }
 
 /// A sink over any writer, as standard output. It flushes after each write.
-#[derive(Debug, Drop)]
+#[derive(Drop)]
 pub struct StdSink<W: Write> {
     writer: W,
     faults: u64,
