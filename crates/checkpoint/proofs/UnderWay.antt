@@ -4,7 +4,7 @@ use Rattle.std.specs.Option.{option_map}
 use Rattle.wq_io.specs.Streams.{before_known, IsAtEnd}
 use Rattle.wq_io.specs.Lines.{GoesOn, HasCause as HasReadCause, IsSound, Reading, fresh, input_length, input_lines, taken, unread}
 use Rattle.wq_io.specs.declared.lines.LineFault.{LineFault}
-use Rattle.wq_io.specs.declared.lines.LineFault.TheVariants.{ReadFault as NotRead, TooLong as OverLong, LineLong, OutOfMemory as Refused}
+use Rattle.wq_io.specs.declared.lines.LineFault.TheVariants.{ReadFault as NotRead, TooLong as OverLong, LineLong, OutOfMemory as LineOutOfMemory}
 use Rattle.world.specs.WorldState.{WorldState}
 use Rattle.snapshot.specs.File.{saved_in_bytes}
 use Rattle.snapshot.specs.Whole.{whole}
@@ -114,7 +114,7 @@ fault_stops room (Some bytes) left reader w stage given n u OverLong before now 
 fault_stops room None left reader w stage given n u (LineLong number) before now first later cause = tt
 fault_stops room (Some bytes) left reader w stage given n u (LineLong number) before now first later cause =
     inl (over_long bytes left reader (loading_of w stage given) n u.progress number cause.0 u.max_line cause.1)
-fault_stops room start left reader w stage given n u Refused before now first later cause = tt
+fault_stops room start left reader w stage given n u LineOutOfMemory before now first later cause = tt
 
 -- a line isn't taken
 pub line_stops : (room : ℕ) (start left left_next : Option (List ℕ)) (reader next : Reading) (w : WorldState) (stage : Stage) (given number n : ℕ) (text : List ℕ)

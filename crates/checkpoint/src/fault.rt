@@ -1,7 +1,7 @@
 // Why nothing was loaded.
 
 ghost use Rattle.std.specs.Prelude.{◌≡◌};
-ghost use Rattle.checkpoint.specs.{Fault.fault_of, declared.fault.LoadFault.TheVariants.OutOfMemory as Refused};
+ghost use Rattle.checkpoint.specs.{Fault.fault_of, declared.fault.LoadFault.TheVariants.OutOfMemory as LoadOutOfMemory};
 
 use rdf_term::OutOfMemory;
 use thiserror::Error;
@@ -42,7 +42,7 @@ impl From<LineFault> for LoadFault {
 }
 
 impl From<OutOfMemory> for LoadFault {
-    ghost from_gives = { λ _ e. e ≡ Refused };
+    ghost from_gives = { λ _ e. e ≡ LoadOutOfMemory };
 
     fn from(_refused: OutOfMemory) -> LoadFault {
         LoadFault::OutOfMemory

@@ -2,7 +2,7 @@
 
 ghost use Rattle.std.specs.Prelude.{◌≡◌, Option};
 ghost use Rattle.entity_json.specs.Finds.{Finds, Makes};
-ghost use Rattle.entity_json.specs.declared.part.PartFault.TheVariants.{OutOfMemory as Refused};
+ghost use Rattle.entity_json.specs.declared.part.PartFault.TheVariants.{OutOfMemory as PartOutOfMemory};
 
 use base::OutOfMemory;
 use std::alloc::{AllocError, AllocFailed};
@@ -17,7 +17,7 @@ pub enum PartFault {
 }
 
 impl From<OutOfMemory> for PartFault {
-    ghost from_gives = { λ _ e. e ≡ Refused };
+    ghost from_gives = { λ _ e. e ≡ PartOutOfMemory };
 
     fn from(_refused: OutOfMemory) -> PartFault {
         PartFault::OutOfMemory
@@ -25,7 +25,7 @@ impl From<OutOfMemory> for PartFault {
 }
 
 impl From<AllocError> for PartFault {
-    ghost from_gives = { λ _ e. e ≡ Refused };
+    ghost from_gives = { λ _ e. e ≡ PartOutOfMemory };
 
     fn from(_refused: AllocError) -> PartFault {
         PartFault::OutOfMemory
@@ -33,7 +33,7 @@ impl From<AllocError> for PartFault {
 }
 
 impl<T: Drop> From<AllocFailed<T>> for PartFault {
-    ghost from_gives = { λ _ e. e ≡ Refused };
+    ghost from_gives = { λ _ e. e ≡ PartOutOfMemory };
 
     fn from(_refused: AllocFailed<T>) -> PartFault {
         PartFault::OutOfMemory

@@ -1,7 +1,7 @@
 // Why a line is refused.
 
 ghost use Rattle.std.specs.Prelude.{◌≡◌};
-ghost use Rattle.event_line.specs.declared.faults.DeliveryFault.TheVariants.{Bad as Refused, OutOfMemory as NoMemory};
+ghost use Rattle.event_line.specs.declared.faults.DeliveryFault.TheVariants.{Bad as Refused, OutOfMemory as DeliveryOutOfMemory};
 
 use rdf_term::OutOfMemory;
 use thiserror::Error;
@@ -63,7 +63,7 @@ impl From<LineCause> for DeliveryFault {
 }
 
 impl From<OutOfMemory> for DeliveryFault {
-    ghost from_gives = { λ _ e. e ≡ NoMemory };
+    ghost from_gives = { λ _ e. e ≡ DeliveryOutOfMemory };
 
     fn from(_refused: OutOfMemory) -> DeliveryFault {
         DeliveryFault::OutOfMemory

@@ -4,7 +4,7 @@ ghost use Rattle.std.specs.Prelude.{◌≡◌, ◌⊎◌, None, Some, MatchResul
 ghost use Rattle.serde_json.specs.View.{view};
 ghost use Rattle.term_reading.specs.Reader.{read as term_of};
 ghost use Rattle.event_line.specs.Line.{Answers, AnswersPart, data_of, delivery_in, else_cause, event_in, watermark_in, ask_in, mapping_in, match_in, version_of, pattern_of, pattern_with, wanted_in, kind_named, kind_name, entity_of, rev_of, time_at, whole_kind};
-ghost use Rattle.event_line.specs.declared.faults.DeliveryFault.TheVariants.{Bad as Refused, OutOfMemory as NoMemory};
+ghost use Rattle.event_line.specs.declared.faults.DeliveryFault.TheVariants.{Bad as Refused, OutOfMemory as DeliveryOutOfMemory};
 ghost use Rattle.event_line.specs.declared.faults.LineCause.TheVariants.{NotJson as NoJson};
 
 use crate::compact::compact_event;
@@ -50,7 +50,7 @@ pub fn delivery(alloc: Global, line: &[u8]) -> Result<Delivery, DeliveryFault>
 /// The JSON value of a line.
 fn read_value(alloc: Global, line: &[u8]) -> Result<Value, DeliveryFault>
     ensures { MatchResult result (λ value. data_of line.now ≡ Some (view value))
-        (λ fault. (fault ≡ NoMemory) ⊎ ((fault ≡ Refused NoJson) × (data_of line.now ≡ None))) }
+        (λ fault. (fault ≡ DeliveryOutOfMemory) ⊎ ((fault ≡ Refused NoJson) × (data_of line.now ≡ None))) }
 {
     match Value::from_slice(alloc, line) {
         Ok(value) => Ok(value),

@@ -9,7 +9,7 @@ use Rattle.replica.specs.declared.record.PatchRecord.{PatchRecord}
 use Rattle.replica.specs.Laws.{IsGreatest}
 use Rattle.replica.specs.Replica.{after, numbered, terms_with}
 use Rattle.text_output.specs.declared.write.Unwritten.{Unwritten}
-use Rattle.text_output.specs.declared.write.Unwritten.TheVariants.{WriteFault as NotWritten, OutOfMemory as Refused}
+use Rattle.text_output.specs.declared.write.Unwritten.TheVariants.{WriteFault as NotWritten, OutOfMemory as UnwrittenOutOfMemory}
 use Rattle.words.specs.Options.{FollowChoices, follow_max_bytes_of}
 use Rattle.following.specs.declared.stop.RecordCause.{RecordCause}
 use Rattle.following.specs.declared.stop.RecordCause.TheVariants.{LineLong, Head, Triple, Order, Short}
@@ -188,7 +188,7 @@ module _ (choices : FollowChoices) (before now : FollowMoment) (bytes : List ℕ
 
     printing_ends : (Rose before.output.faults now.output.faults → ⊥) → (why : Unwritten) → BrokenOff why choices before now → stop_of_unwritten why ≡ OutOfMemory
     printing_ends writes NotWritten broken = absurd (writes (broken.cut_short.failed refl).1)
-    printing_ends writes Refused broken = refl
+    printing_ends writes UnwrittenOutOfMemory broken = refl
 
     pub good_records : (Rose before.output.faults now.output.faults → ⊥) → (stop : FollowStop) → StoppedFollowing stop choices before now → stop ≡ OutOfMemory
     good_records writes stop stopped = ⊎_elim (λ taking. taking_ends stop taking.0) (λ printing. printing.1 ∙ printing_ends writes printing.0 printing.2) stopped

@@ -5,7 +5,7 @@ use Rattle.replica.specs.declared.record.PatchRecord.{PatchRecord}
 use Rattle.replica.specs.Replica.{Follows, HasRoomForNext, HasNoRoomForNext, ReplicaState, after, nothing_received, numbered, patched_if, terms_with}
 use Rattle.replica.proofs.Following.{follows_nothing}
 use Rattle.term_pool.specs.declared.fault.PoolFault.{PoolFault}
-use Rattle.term_pool.specs.declared.fault.PoolFault.TheVariants.{Full, OutOfMemory as Unfed}
+use Rattle.term_pool.specs.declared.fault.PoolFault.TheVariants.{Full, OutOfMemory as PoolOutOfMemory}
 use Rattle.following.specs.Stop.{HeldUp, stop_of_store}
 use Rattle.following.specs.Taking.{HadRoom, HasApplied, HasReceived, IsRecordOverfull}
 
@@ -94,7 +94,7 @@ fault_is fault = Err fault
 pub held_up : (fault : PoolFault) (old state : ReplicaState) → (fault_is fault ≡ fault_is Full → HasNoRoomForNext state) → ((items : List PatchRecord) → HasReceived items old → HasReceived items state) → state.limit ≡ old.limit →
     HeldUp (stop_of_store fault) ((items : List PatchRecord) → HasReceived items old → IsRecordOverfull old.limit items)
 held_up Full old state full kept limit = inl (refl, λ items received. subst (λ n. IsRecordOverfull n items) limit (overfull items state (kept items received) (full refl)))
-held_up Unfed old state full kept limit = inr refl
+held_up PoolOutOfMemory old state full kept limit = inr refl
 
 -- nothing was received
 pub none_applied : (room : ℕ) → HasApplied [] (nothing_received room)

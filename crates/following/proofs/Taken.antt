@@ -3,10 +3,10 @@ use Rattle.std.proofs.Common.{refl, sym, subst, ◌∙◌, ap, ⊎_elim, ◌≡�
 use Rattle.wq_io.specs.Streams.{IsAtEnd, LastRead, Rose}
 use Rattle.wq_io.specs.Lines.{HasCause as HasLineCause, IsSound, Leaves, Reading, ReadsAsNeeded, fresh, unread}
 use Rattle.wq_io.specs.declared.lines.LineFault.{LineFault}
-use Rattle.wq_io.specs.declared.lines.LineFault.TheVariants.{ReadFault as NotRead, TooLong as PastLimit, LineLong as OverLong, OutOfMemory as NoMemory}
+use Rattle.wq_io.specs.declared.lines.LineFault.TheVariants.{ReadFault as NotRead, TooLong as PastLimit, LineLong as OverLong, OutOfMemory as LineOutOfMemory}
 use Rattle.replica.specs.declared.reader.Begun.{Begun}
 use Rattle.replica.specs.declared.reader.PatchFault.{PatchFault}
-use Rattle.replica.specs.declared.reader.PatchFault.TheVariants.{Head as NoHead, Triple as NoTriple, Order as OutOfOrder, OutOfMemory as Starved}
+use Rattle.replica.specs.declared.reader.PatchFault.TheVariants.{Head as NoHead, Triple as NoTriple, Order as OutOfOrder, OutOfMemory as PatchOutOfMemory}
 use Rattle.replica.specs.declared.record.PatchRecord.{PatchRecord}
 use Rattle.replica.specs.Reader.{HasCause, lines_read as lines_begun}
 use Rattle.replica.specs.Replica.{ReplicaState, nothing_received}
@@ -91,7 +91,7 @@ module _ (limit : ℕ) (before now : Input) (reader : Reading) (begun : Option B
     counted = cause.0 ∙ ap (λ n. n + 1) so_far.read.counted;
     refused = over_long limit reader now.left so_far.done so_far.limits so_far.sound before.left so_far.read cause.1;
   }
-  fault_stops NoMemory room input same cause leaves = tt
+  fault_stops LineOutOfMemory room input same cause leaves = tt
 
   -- at the end all lines were taken, if no record lacks lines
   pub end_reached : (input : Input) → (IsTrue false ↔ (lines_begun begun ≡ [] → ⊥)) → IsAtEnd input.left → IsAtEnd (unread reader now.left) → HasTakenRecords limit before input state
@@ -134,7 +134,7 @@ module _ (limit : ℕ) (before now : Input) (reader : Reading) (begun : Option B
       counted = counted ∙ ap (λ n. n + 1) so_far.read.counted;
       refused = bad_line limit reader now.left so_far.done so_far.limits so_far.sound line next input.left is begun before.left OutOfOrder so_far.read cause;
     }
-    record_stops Starved room number same counted cause = tt
+    record_stops PatchOutOfMemory room number same counted cause = tt
 
     read_now : next.given ≡ reader.given + 1 → HasReadLines before.left next input.left (so_far.done ++ line ∷ [])
     read_now given = read_more limit reader now.left so_far.done so_far.limits so_far.sound line next input.left is before.left so_far.read given

@@ -2,17 +2,17 @@
 use Rattle.std.specs.Prelude.{◌≡◌, ◌⊎◌, ℕ, ◌+◌, List, [], ◌∷◌, ◌++◌, length, Option, None, IfSome, ⊤}
 use Rattle.wq_io.specs.Streams.{Rose}
 use Rattle.wq_io.specs.declared.lines.LineFault.{LineFault}
-use Rattle.wq_io.specs.declared.lines.LineFault.TheVariants.{ReadFault as NotRead, TooLong as PastLimit, LineLong as OverLong, OutOfMemory as NoMemory}
+use Rattle.wq_io.specs.declared.lines.LineFault.TheVariants.{ReadFault as NotRead, TooLong as PastLimit, LineLong as OverLong, OutOfMemory as LineOutOfMemory}
 use Rattle.replica.specs.declared.reader.Begun.{Begun}
 use Rattle.replica.specs.declared.reader.PatchFault.{PatchFault}
-use Rattle.replica.specs.declared.reader.PatchFault.TheVariants.{Head as NoHead, Triple as NoTriple, Order as OutOfOrder, OutOfMemory as Starved}
+use Rattle.replica.specs.declared.reader.PatchFault.TheVariants.{Head as NoHead, Triple as NoTriple, Order as OutOfOrder, OutOfMemory as PatchOutOfMemory}
 use Rattle.replica.specs.declared.record.PatchRecord.{PatchRecord}
 use Rattle.replica.specs.Reader.{HasCause}
 use Rattle.replica.specs.Replica.{ReplicaState}
 use Rattle.term_pool.specs.declared.fault.PoolFault.{PoolFault}
-use Rattle.term_pool.specs.declared.fault.PoolFault.TheVariants.{Full, OutOfMemory as Unfed}
+use Rattle.term_pool.specs.declared.fault.PoolFault.TheVariants.{Full, OutOfMemory as PoolOutOfMemory}
 use Rattle.text_output.specs.declared.write.Unwritten.{Unwritten}
-use Rattle.text_output.specs.declared.write.Unwritten.TheVariants.{WriteFault as NotWritten, OutOfMemory as Refused}
+use Rattle.text_output.specs.declared.write.Unwritten.TheVariants.{WriteFault as NotWritten, OutOfMemory as UnwrittenOutOfMemory}
 use Rattle.following.specs.declared.stop.RecordCause.{RecordCause}
 use Rattle.following.specs.declared.stop.RecordCause.TheVariants.{LineLong, Head, Triple, Order, Short}
 use Rattle.following.specs.declared.stop.FollowStop.{FollowStop}
@@ -26,24 +26,24 @@ abbrev pub stop_of_line : LineFault → FollowStop
 stop_of_line NotRead = ReadFault
 stop_of_line PastLimit = TooLong
 stop_of_line (OverLong number) = BadLine number LineLong
-stop_of_line NoMemory = OutOfMemory
+stop_of_line LineOutOfMemory = OutOfMemory
 
 -- why it stopped at a line with this number that the reader of records refused
 abbrev pub stop_of_record : ℕ → PatchFault → FollowStop
 stop_of_record number NoHead = BadLine number Head
 stop_of_record number NoTriple = BadLine number Triple
 stop_of_record number OutOfOrder = BadLine number Order
-stop_of_record number Starved = OutOfMemory
+stop_of_record number PatchOutOfMemory = OutOfMemory
 
 -- why it stopped at a record that wasn't applied
 abbrev pub stop_of_store : PoolFault → FollowStop
 stop_of_store Full = StoreFull
-stop_of_store Unfed = OutOfMemory
+stop_of_store PoolOutOfMemory = OutOfMemory
 
 -- why a follower stopped where not all was written
 abbrev pub stop_of_unwritten : Unwritten → FollowStop
 stop_of_unwritten NotWritten = WriteFault
-stop_of_unwritten Refused = OutOfMemory
+stop_of_unwritten UnwrittenOutOfMemory = OutOfMemory
 
 -- why the line behind these is refused, where so much of a record was read
 abbrev pub IsRefused : RecordCause → ℕ → List ℕ → List (List ℕ) → Option Begun → Type 0

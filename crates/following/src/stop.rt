@@ -1,7 +1,7 @@
 // Why a follower stopped.
 
 ghost use Rattle.std.specs.Prelude.{◌≡◌};
-ghost use Rattle.following.specs.{Stop.stop_of_record, declared.stop.FollowStop.TheVariants.OutOfMemory as Refused};
+ghost use Rattle.following.specs.{Stop.stop_of_record, declared.stop.FollowStop.TheVariants.OutOfMemory as FollowOutOfMemory};
 
 use rdf_term::OutOfMemory;
 use replica::{PatchFault, ReplicaFault};
@@ -41,7 +41,7 @@ pub enum FollowStop {
 }
 
 impl From<OutOfMemory> for FollowStop {
-    ghost from_gives = { λ _ stop. stop ≡ Refused };
+    ghost from_gives = { λ _ stop. stop ≡ FollowOutOfMemory };
 
     fn from(_refused: OutOfMemory) -> FollowStop {
         FollowStop::OutOfMemory

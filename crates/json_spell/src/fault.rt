@@ -1,7 +1,7 @@
 // What a text is refused for.
 
 ghost use Rattle.std.specs.Prelude.{◌≡◌};
-ghost use Rattle.json_spell.specs.declared.fault.JsonFault.TheVariants.{OutOfMemory as Refused};
+ghost use Rattle.json_spell.specs.declared.fault.JsonFault.TheVariants.{OutOfMemory as JsonOutOfMemory};
 
 use base::OutOfMemory;
 use std::alloc::{AllocError, AllocFailed};
@@ -23,7 +23,7 @@ pub enum JsonFault {
 }
 
 impl From<OutOfMemory> for JsonFault {
-    ghost from_gives = { λ _ e. e ≡ Refused };
+    ghost from_gives = { λ _ e. e ≡ JsonOutOfMemory };
 
     fn from(_refused: OutOfMemory) -> JsonFault {
         JsonFault::OutOfMemory
@@ -31,7 +31,7 @@ impl From<OutOfMemory> for JsonFault {
 }
 
 impl From<AllocError> for JsonFault {
-    ghost from_gives = { λ _ e. e ≡ Refused };
+    ghost from_gives = { λ _ e. e ≡ JsonOutOfMemory };
 
     fn from(_refused: AllocError) -> JsonFault {
         JsonFault::OutOfMemory
@@ -39,7 +39,7 @@ impl From<AllocError> for JsonFault {
 }
 
 impl<T: Drop> From<AllocFailed<T>> for JsonFault {
-    ghost from_gives = { λ _ e. e ≡ Refused };
+    ghost from_gives = { λ _ e. e ≡ JsonOutOfMemory };
 
     fn from(_refused: AllocFailed<T>) -> JsonFault {
         JsonFault::OutOfMemory

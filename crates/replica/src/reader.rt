@@ -3,7 +3,7 @@
 ghost use Rattle.std.specs.Prelude.{◌≡◌, ◌↔◌, ◌++◌, ◌∷◌, [], IfErr, IfOk, IfSome, IsErr, IsTrue, MatchOption, None, Some, false, true, ◌⊎◌};
 ghost use Rattle.rising.specs.Rising.{IsRising, has};
 ghost use Rattle.rdf_term.specs.{declared.triple.Triple.Triple as TheTriple, Order.triple_cmp};
-ghost use Rattle.replica.specs.declared.reader.PatchFault.TheVariants.{Order as OutOfOrder, OutOfMemory as Refused};
+ghost use Rattle.replica.specs.declared.reader.PatchFault.TheVariants.{Order as OutOfOrder, OutOfMemory as PatchOutOfMemory};
 ghost use Rattle.replica.specs.Reader.{Grows, HasCause, IsPart, IsUnfinished, TakesLine, given, may_come_next, is_adding, is_next, all_read, left, lines_read, opened, patch_read, with_triple};
 ghost use Rattle.replica.specs.{Record.IsSound, Record.record_lines, TripleLine.HasReadableTerms};
 
@@ -187,7 +187,7 @@ impl Begun {
         requires unfinished { IsUnfinished self }
         requires readable { HasReadableTerms triple }
         ensures ok { IfOk result (λ next. (may_come_next self triple ≡ true) × (next ≡ with_triple self triple) × IsPart next) }
-        ensures err { IfErr result (λ fault. (fault ≡ Refused) ⊎ ((fault ≡ OutOfOrder) × (may_come_next self triple ≡ false))) }
+        ensures err { IfErr result (λ fault. (fault ≡ PatchOutOfMemory) ⊎ ((fault ≡ OutOfOrder) × (may_come_next self triple ≡ false))) }
     {
         if self.may_come_next(&triple) {
             self.with_triple(triple)
@@ -200,7 +200,7 @@ impl Begun {
     #[tactic(auto, unfolding(crate::specs::Reader::with_triple))]
     fn with_triple(self, triple: Triple) -> Result<Begun, PatchFault>
         ensures ok { IfOk result (λ next. next ≡ with_triple self triple) }
-        ensures err { IfErr result (λ fault. fault ≡ Refused) }
+        ensures err { IfErr result (λ fault. fault ≡ PatchOutOfMemory) }
     {
         let Begun {
             head,

@@ -33,7 +33,7 @@ use Rattle.session.specs.declared.report.Report.TheVariants.{Answers, Changes}
 use Rattle.session.specs.declared.stop.Halt.{Halt}
 use Rattle.session.specs.declared.stop.Halt.TheVariants.{Unapplied as NotApplied}
 use Rattle.session.specs.declared.stop.Stop.TheVariants.{OutOfMemory}
-use Rattle.term_pool.specs.declared.fault.PoolFault.TheVariants.{OutOfMemory as StoreOutOfMemory}
+use Rattle.term_pool.specs.declared.fault.PoolFault.TheVariants.{OutOfMemory as PoolOutOfMemory}
 use Rattle.session.specs.Course.{along, state_along, steps_of_delivery, answer_by, answer_held, answer_of_delivery, answer_text, said_by, Course, course_after, course_begun, course_remapping, course_to_end, led_to, said_behind, version_at}
 use Rattle.session.specs.Remapping.{HaveRoom, HaveRoomBefore, needed_anew, needed_of_delivery, needed_by_due, KeepsVersion, Mapped, mapped_by}
 use Rattle.session.specs.Report.{HasReported}
@@ -285,10 +285,10 @@ module _ (environment : Environment) (ds : List Delivery) (start : Beginning) wh
   }
 
   -- a world at rest is where its play is
-  pub rest_within : (now : Stage) (reported : ℕ) → AtRest environment ds reported start now → IsWithin (NotApplied StoreOutOfMemory) environment (course_begun environment.routes ds None start) (λ replies. led_to ds start replies) start now
+  pub rest_within : (now : Stage) (reported : ℕ) → AtRest environment ds reported start now → IsWithin (NotApplied PoolOutOfMemory) environment (course_begun environment.routes ds None start) (λ replies. led_to ds start replies) start now
   rest_within now reported at_rest =
-      let There : List Delivery → Type 0 = λ l. IsWithin (NotApplied StoreOutOfMemory) environment (record (course_after environment.routes l start) { bytes = said_behind environment.routes ds start }) (λ replies. led_to ds start replies) start now in
-      subst There (sym (append-nil ds)) (within StoreOutOfMemory environment (course_after environment.routes ds start) (λ replies. led_to ds start replies) reported start now now.counts (no_call now.counts) (record { leads = at_rest.leads; steps = 0; is = rest_is now reported at_rest }))
+      let There : List Delivery → Type 0 = λ l. IsWithin (NotApplied PoolOutOfMemory) environment (record (course_after environment.routes l start) { bytes = said_behind environment.routes ds start }) (λ replies. led_to ds start replies) start now in
+      subst There (sym (append-nil ds)) (within PoolOutOfMemory environment (course_after environment.routes ds start) (λ replies. led_to ds start replies) reported start now now.counts (no_call now.counts) (record { leads = at_rest.leads; steps = 0; is = rest_is now reported at_rest }))
 
   -- a watermark is taken, and some of what is due is applied
   pub mark_begun : (halt : Halt) (now then : Stage) (reported : ℕ) (m : ℤ) → StaysWithin halt environment reported (with_world now (after_mark now.world m)) then → AtRest environment ds reported start now →
@@ -477,7 +477,7 @@ module _ (environment : Environment) (ds : List Delivery) (start : Beginning) wh
 -- an event wasn't taken
 pub event_cut_off : (environment : Environment) (e : Event) (reported matched : ℕ) (now : Stage) → CutsOff OutOfMemory environment (turn reported matched (Told e)) now now
 event_cut_off environment e reported matched now = inr (inl (
-  NotApplied StoreOutOfMemory,
+  NotApplied PoolOutOfMemory,
   refl,
   record {
     kind = tt;

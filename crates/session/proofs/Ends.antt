@@ -41,7 +41,7 @@ use Rattle.session.specs.declared.report.Report.TheVariants.{Answers, Changes}
 use Rattle.session.specs.declared.stop.Halt.{Halt}
 use Rattle.session.specs.declared.stop.Halt.TheVariants.{Unapplied as NotApplied, Unprinted}
 use Rattle.term_pool.specs.declared.fault.PoolFault.{PoolFault as StoreFault}
-use Rattle.term_pool.specs.declared.fault.PoolFault.TheVariants.{Full as NoRoom, OutOfMemory as StoreOutOfMemory}
+use Rattle.term_pool.specs.declared.fault.PoolFault.TheVariants.{Full as NoRoom, OutOfMemory as PoolOutOfMemory}
 use Rattle.session.specs.Taking.{HoldsDocuments, judgement, replies_there}
 use Rattle.session.specs.Delivering.{HasTakenAll, HasTaken, HasAnswered, AtEnd, IsHeldUp, IsLeft, Leads}
 use Rattle.words.specs.Options.{closes, max_bytes_of}
@@ -196,14 +196,14 @@ interrupted UnwrittenOutOfMemory run before now between earlier rose stands = in
 -- not all that was due was applied, or told
 pub halted : (halt : Halt) (run : Run) (before now : Moment) (between : Output) → before.stage.output.faults ≤ between.faults → IsHeldUp halt run.environment between now.stage → IsHalted halt run before now → Stopped (stop_of_halt halt) run before now
 halted (NotApplied NoRoom) run before now between earlier full stands = inl (full, stands)
-halted (NotApplied StoreOutOfMemory) run before now between earlier held_up stands = inl (inl (inl stands))
+halted (NotApplied PoolOutOfMemory) run before now between earlier held_up stands = inl (inl (inl stands))
 halted (Unprinted NotWritten) run before now between earlier rose stands = inl (rose_since before.stage.output.faults between.faults now.stage.output.faults earlier rose, inr (inl stands))
 halted (Unprinted UnwrittenOutOfMemory) run before now between earlier rose stands = inl (inr (inr (inl stands)))
 
 -- not all that is held was remapped
 pub left_stale : (why : StoreFault) (run : Run) (before now : Moment) → IsLeftStale why run.environment.limit now.stage.world.played.records now.stage.mapped → StandsAtMapping run before now → Stopped (stop_of_unapplied why) run before now
 left_stale NoRoom run before now full stands = inr (full, stands)
-left_stale StoreOutOfMemory run before now stale stands = inl (inl (inr stands))
+left_stale PoolOutOfMemory run before now stale stands = inl (inl (inr stands))
 
 -- a page was remapped, and not told wholly
 pub page_unprinted : (why : Unwritten) (run : Run) (before now : Moment) (limit : ℕ) (records : Records) (between : Output) → before.stage.output.faults ≤ between.faults →

@@ -37,7 +37,7 @@ use Rattle.session.specs.declared.stop.Halt.{Halt}
 use Rattle.session.specs.declared.stop.Halt.TheVariants.{Unapplied as NotApplied, Unprinted}
 use Rattle.session.specs.declared.stop.Stop.{Stop}
 use Rattle.session.specs.declared.stop.Stop.TheVariants.{BadLine, OutOfMemory}
-use Rattle.term_pool.specs.declared.fault.PoolFault.TheVariants.{Full as NoRoom, OutOfMemory as StoreOutOfMemory}
+use Rattle.term_pool.specs.declared.fault.PoolFault.TheVariants.{Full as NoRoom, OutOfMemory as PoolOutOfMemory}
 use Rattle.session.specs.Moment.{SourceCounts, no_numbers, Beginning, Moment, Run, Environment, Stage, onward, standing, start_in, start_of, with_mapped, with_output}
 use Rattle.session.specs.Headline.{IsPlayed, IsPlayedAfter, StandsAtPage, StandsAtQuestion, Stopped, StopsWithin}
 use Rattle.following.specs.Input.{Input}
@@ -170,7 +170,7 @@ no_last d never = cc
 -- memory was refused before the first line
 pub starved_at_once : (run : Run) (before : Moment) → IsStanding before.stage.world before.stage.mapped → Stopped OutOfMemory run before before
 starved_at_once run before stands =
-    let stops : StopsWithin (NotApplied StoreOutOfMemory) run before before = record {
+    let stops : StopsWithin (NotApplied PoolOutOfMemory) run before before = record {
       deliveries = [];
       last = None;
       kind = tt;
@@ -200,7 +200,7 @@ module _ (run : Run) (before now : Moment) (reader : Reading) (reported matched 
 
   -- memory was refused: the world is as it was after the lines so far
   pub stands : (next : Reading) (input : Input) (last last_next : Option LastRead) → ReadsAsNeeded reader next now.input.left input.left last last_next →
-      StopsWithin (NotApplied StoreOutOfMemory) run before (record now { input = input; last_read = last_next })
+      StopsWithin (NotApplied PoolOutOfMemory) run before (record now { input = input; last_read = last_next })
   stands next input last last_next reads = record {
     deliveries = so_far.deliveries;
     last = None;
@@ -296,18 +296,18 @@ module _ (run : Run) (before now : Moment) (reader : Reading) (reported matched 
           (in_part.world so_far.deliveries (start_of run before) so_far.at_rest)
         where
           Within : Stage → Type 0
-          Within s = IsWithin (NotApplied StoreOutOfMemory) run.environment (course_begun run.environment.routes so_far.deliveries None (start_of run before)) (λ replies. led_to so_far.deliveries (start_of run before) replies) (start_of run before) s
+          Within s = IsWithin (NotApplied PoolOutOfMemory) run.environment (course_begun run.environment.routes so_far.deliveries None (start_of run before)) (λ replies. led_to so_far.deliveries (start_of run before) replies) (start_of run before) s
 
           still : after.stage.world ≡ now.stage.world → after.stage.counts ≡ now.stage.counts → after.stage.output ≡ now.stage.output → Within after.stage
           still world counts output =
               subst (λ o. Within (with_output after.stage o)) (sym output)
               (subst (λ w. Within (with_mapped (onward now.stage after.stage.counts w) after.stage.mapped)) (sym world)
               (subst (λ c. Within (with_mapped (onward now.stage c now.stage.world) after.stage.mapped)) (sym counts)
-              (within_mapped StoreOutOfMemory _ _ _ _ now.stage after.stage.mapped (rest_within run.environment so_far.deliveries (start_of run before) now.stage reported so_far.at_rest))))
+              (within_mapped PoolOutOfMemory _ _ _ _ now.stage after.stage.mapped (rest_within run.environment so_far.deliveries (start_of run before) now.stage reported so_far.at_rest))))
 
           untaken : (halt : Halt) → after.stage.mapped ≡ mapped_by (version_at so_far.deliveries (start_of run before)) after.stage.world.played.records → IsUntaken halt now.stage after.stage → StopsWithin halt run before after
           untaken (NotApplied NoRoom) mapped never = absurd never
-          untaken (NotApplied StoreOutOfMemory) mapped same = record {
+          untaken (NotApplied PoolOutOfMemory) mapped same = record {
             deliveries = so_far.deliveries;
             last = None;
             kind = tt;

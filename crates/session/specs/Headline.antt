@@ -33,7 +33,7 @@ use Rattle.session.specs.declared.report.Report.TheVariants.{Answers, Changes}
 use Rattle.session.specs.declared.stop.Halt.TheVariants.{Unapplied, Unprinted}
 use Rattle.session.specs.declared.stop.Stop.{Stop}
 use Rattle.session.specs.declared.stop.Stop.TheVariants.{BadLine, ReadFault, WriteFault, TooLong, StoreFull, OutOfMemory, BadSnapshot}
-use Rattle.term_pool.specs.declared.fault.PoolFault.TheVariants.{Full as NoRoom, OutOfMemory as StoreOutOfMemory}
+use Rattle.term_pool.specs.declared.fault.PoolFault.TheVariants.{Full as NoRoom, OutOfMemory as PoolOutOfMemory}
 use Rattle.session.specs.Course.{answer_text, closing_by, Course, course_after, course_ended, course_printed, course_remapping, version_at, course_begun, course_to_end, led_to}
 use Rattle.session.specs.Moment.{HasCounted, Beginning, IsFirst, Moment, Run, Environment, Stage, horizon_at, start_of, with_mapped, with_output, sections_of, HasSaved, numbers_of, snapshot_text}
 use Rattle.session.specs.Remapping.{HaveRoom, HaveRoomBefore, needed_anew, IsFullOfStale, mapped_by, remapped_some}
@@ -274,7 +274,7 @@ Stopped StoreFull run before now =
     (IsFull run.environment now.stage.world now.stage.mapped × IsHalted (Unapplied NoRoom) run before now)
     ⊎ (IsFullOfStale run.environment.limit now.stage.world.played.records now.stage.mapped × StandsAtMapping run before now)
 Stopped OutOfMemory run before now =
-    ((IsHalted (Unapplied StoreOutOfMemory) run before now ⊎ StandsAtMapping run before now) ⊎ IsInterrupted UnwrittenOutOfMemory run before now)
+    ((IsHalted (Unapplied PoolOutOfMemory) run before now ⊎ StandsAtMapping run before now) ⊎ IsInterrupted UnwrittenOutOfMemory run before now)
     ⊎ Unsaved UnwrittenOutOfMemory run before now
 Stopped (BadSnapshot number) run before now = ⊥
 

@@ -16,7 +16,7 @@ use Rattle.session.specs.declared.stop.Stop.{Stop}
 use Rattle.session.specs.declared.stop.Halt.{Halt}
 use Rattle.session.specs.declared.stop.Halt.TheVariants.{Unapplied as NotApplied, Unprinted}
 use Rattle.term_pool.specs.declared.fault.PoolFault.{PoolFault as StoreFault}
-use Rattle.term_pool.specs.declared.fault.PoolFault.TheVariants.{Full as NoRoom, OutOfMemory as StoreOutOfMemory}
+use Rattle.term_pool.specs.declared.fault.PoolFault.TheVariants.{Full as NoRoom, OutOfMemory as PoolOutOfMemory}
 use Rattle.session.specs.declared.stop.Stop.TheVariants.{BadLine, ReadFault, WriteFault, TooLong, StoreFull, OutOfMemory, BadSnapshot}
 use Rattle.session.specs.declared.status.Status.{Status}
 use Rattle.session.specs.declared.status.Status.TheVariants.{Ok as Ended, BadWords as WordsRefused, BadLine as LineRefused, ReadFault as ReadFailed, WriteFault as WriteFailed, TooLong as LimitPassed}
@@ -37,7 +37,7 @@ stop_of_unwritten UnwrittenOutOfMemory = OutOfMemory
 -- why a run stopped if not all due events were applied, or not all pages remapped
 abbrev pub stop_of_unapplied : StoreFault → Stop
 stop_of_unapplied NoRoom = StoreFull
-stop_of_unapplied StoreOutOfMemory = OutOfMemory
+stop_of_unapplied PoolOutOfMemory = OutOfMemory
 
 -- why a run stopped where a delivery wasn't taken wholly
 abbrev pub stop_of_halt : Halt → Stop

@@ -7,7 +7,7 @@ ghost use Rattle.drill.specs.Drill.{IsSize, drill};
 ghost use Rattle.drill_replay.specs.Playing.{Counted, HasBegun, HasFew, IsByFirst, IsPartOf, StandsAtEnd};
 ghost use Rattle.drill_replay.specs.Summary.{drilled};
 ghost use Rattle.session.specs.DrillPlaying.{HasTakenFirst, LeavesDrill};
-ghost use Rattle.term_pool.specs.declared.fault.PoolFault.TheVariants.{OutOfMemory as StoreOutOfMemory};
+ghost use Rattle.term_pool.specs.declared.fault.PoolFault.TheVariants.{OutOfMemory as PoolOutOfMemory};
 
 use crate::context::{Context, Incoming};
 use crate::delivering::{deliver, take_end};
@@ -135,7 +135,7 @@ impl DrillRun {
 
 // The end of a drill stops only with OutOfMemory.
 fn starved(halt: Halt) -> OutOfMemory
-    requires { halt ≡ Halt.Unapplied StoreOutOfMemory }
+    requires { halt ≡ Halt.Unapplied PoolOutOfMemory }
 {
     let _ = halt;
     OutOfMemory

@@ -1,7 +1,7 @@
 // Bytes, and lines that are made already, are written whole.
 
 ghost use Rattle.std.specs.Prelude.{◌≡◌, flat_map, string_bytes};
-ghost use Rattle.text_output.specs.{Printing.Prints, Printing.output, declared.write.Unwritten.TheVariants.OutOfMemory as Refused};
+ghost use Rattle.text_output.specs.{Printing.Prints, Printing.output, declared.write.Unwritten.TheVariants.OutOfMemory as UnwrittenOutOfMemory};
 
 use base::OutOfMemory;
 use wq_io::{NoWrite, Sink};
@@ -16,7 +16,7 @@ pub enum Unwritten {
 }
 
 impl From<OutOfMemory> for Unwritten {
-    ghost from_gives = { λ _ e. e ≡ Refused };
+    ghost from_gives = { λ _ e. e ≡ UnwrittenOutOfMemory };
 
     fn from(_refused: OutOfMemory) -> Unwritten {
         Unwritten::OutOfMemory

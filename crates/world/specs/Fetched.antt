@@ -11,7 +11,7 @@ use Rattle.side_output.specs.declared.entry.Cause.{Cause}
 use Rattle.side_output.specs.declared.entry.Cause.TheVariants.{Failed}
 use Rattle.replay_model.specs.Records.{Bytes, Records}
 use Rattle.entity_json.specs.declared.fault.DocumentFault.{DocumentFault}
-use Rattle.entity_json.specs.declared.fault.DocumentFault.TheVariants.{Unfit as NoDocument, OutOfMemory as Refused}
+use Rattle.entity_json.specs.declared.fault.DocumentFault.TheVariants.{Unfit as NoDocument, OutOfMemory as DocumentOutOfMemory}
 use Rattle.entity_json.specs.Document.{document_of, unfit_of}
 use Rattle.world.specs.declared.comparing.ChangedPage.{ChangedPage}
 use Rattle.world.specs.declared.fetching.FetchedPage.{FetchedPage}
@@ -74,4 +74,4 @@ AreMeant records by_two mapping x rev (Some reply) = IsMeant records by_two mapp
 -- why the bytes are no document of x, unless memory was refused
 abbrev pub IsWhy : EntityId → Bytes → DocumentFault → Type 0
 IsWhy x bytes (NoDocument unfit) = unfit_of x bytes ≡ Some unfit
-IsWhy x bytes Refused = ⊤
+IsWhy x bytes DocumentOutOfMemory = ⊤

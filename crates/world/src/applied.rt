@@ -1,7 +1,7 @@
 // What the application of an event led to, or the remapping of a page.
 
 ghost use Rattle.std.specs.Prelude.{◌≡◌};
-ghost use Rattle.world.specs.declared.applied.WorldFault.TheVariants.{OutOfMemory as Refused};
+ghost use Rattle.world.specs.declared.applied.WorldFault.TheVariants.{OutOfMemory as WorldOutOfMemory};
 
 use entity_model::{EntityId, Event, MappingVersion};
 use rdf_term::OutOfMemory;
@@ -95,7 +95,7 @@ pub enum WorldFault {
 }
 
 impl From<OutOfMemory> for WorldFault {
-    ghost from_gives = { λ _ e. e ≡ Refused };
+    ghost from_gives = { λ _ e. e ≡ WorldOutOfMemory };
 
     fn from(_refused: OutOfMemory) -> WorldFault {
         WorldFault::OutOfMemory

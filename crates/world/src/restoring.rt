@@ -11,7 +11,7 @@ ghost use Rattle.replay_model.specs.Versions.{all_by, meaning_by, with_version};
 ghost use Rattle.world.specs.{Fetched.IsPageOf, Meaning.meaning};
 ghost use Rattle.world.specs.Restoring.{MayStand, by_two_with, is_accounted_for, restored};
 ghost use Rattle.world.specs.{Roomed.HasRoom, Roomed.room_with, WorldState.AreHolders};
-ghost use Rattle.world.specs.declared.restoring.RestoreFault.TheVariants.{Full, Unsound, OutOfMemory as Refused};
+ghost use Rattle.world.specs.declared.restoring.RestoreFault.TheVariants.{Full, Unsound, OutOfMemory as RestoreOutOfMemory};
 
 use crate::applied::Handling;
 use crate::fetching::{FetchedPage, Page, Wanted, judge};
@@ -130,7 +130,7 @@ impl Holdings {
     fn restore_bare(&mut self, id: EntityId, after: Standing) -> Result<(), RestoreFault>
         ensures ok { OnOk result (self.new.records ≡ map.insert self.old.records id (record { state = after.state; held = None; reconciled = after.reconciled })) }
         ensures by_two { OnOk result (self.new.by_two ≡ with_version MappingVersion.One id self.old.by_two) }
-        ensures refused { OnErr result (result ≡ Err Refused) }
+        ensures refused { OnErr result (result ≡ Err RestoreOutOfMemory) }
         ensures limit { self.new.limit ≡ self.old.limit }
         ensures within { room_with (meaning_by meaning self.old.by_two) self.old.records [] ≤ self.old.limit }
         ensures held { HasRoom (meaning_by meaning self.new.by_two) self.new.limit self.new.records }

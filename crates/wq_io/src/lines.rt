@@ -4,7 +4,7 @@ ghost use Rattle.std.specs.Prelude.{◌≡◌, ◌+◌, ◌<◌, ◌≤◌, ◌^
 ghost use Rattle.wq_io.specs.Streams.{before_known, IsAtEnd, Rose};
 ghost use Rattle.wq_io.specs.Lines.{fresh, taken, room, unread, input_length, GivesLine, GoesOn, HasCause, IsOneLine, IsPartOfLine, IsSound, Leaves, ReadsAsNeeded, TakesBytes, line_feed, longest_line};
 ghost use Rattle.wq_io.specs.Taking.{EndsAt, HasByte, IsEnded, IsLeftHeld, IsUnreadable, ReadsByNeed, TakesHeld};
-ghost use Rattle.wq_io.specs.declared.lines.LineFault.TheVariants.{ReadFault as NotRead, LineLong as OverLong, OutOfMemory as Refused};
+ghost use Rattle.wq_io.specs.declared.lines.LineFault.TheVariants.{ReadFault as NotRead, LineLong as OverLong, OutOfMemory as LineOutOfMemory};
 
 use crate::source::Source;
 use std::marker::Model;
@@ -305,7 +305,7 @@ fn first_line_feed(bytes: &[u8]) -> Option<usize>
 fn append(line: &mut Vec<u8>, bytes: &[u8], number: u64, max_line: u64) -> Result<(), LineFault>
     requires { length line.old.items ≤ max_line }
     ensures ok { OnOk result ((line.new.items ≡ line.old.items ++ bytes.now) × (length line.new.items ≤ max_line)) }
-    ensures cause { IfErr result (λ fault. (fault ≡ Refused)
+    ensures cause { IfErr result (λ fault. (fault ≡ LineOutOfMemory)
         ⊎ ((fault ≡ OverLong number) × (max_line < length line.old.items + length bytes.now))) }
     ensures kept { IsErr result → line.new.items ≡ line.old.items }
 {
