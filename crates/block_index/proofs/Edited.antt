@@ -7,8 +7,8 @@ use Rattle.std.specs.BTreeSet.{insert_key}
 use Rattle.std.specs.Set.{remove_key}
 use Rattle.std.proofs.lemmas.List.{append-nil, length-take, set_split}
 use Rattle.std.proofs.Math.Seq.{drop-cons}
-use Rattle.rising.specs.Rising.{IsRising}
-use Rattle.rising.proofs.Rising.{IsRising-insert_key}
+use Rattle.sorted_sets.specs.Rising.{IsRising}
+use Rattle.sorted_sets.proofs.Rising.{IsRising-insert_key}
 use Rattle.block_index.specs.Blocks.{keys_of, IsFilled, AreFilled, ChangesTwo, IsIndex}
 use Rattle.block_index.specs.Search.{keys_before, keys_from, Stands}
 use Rattle.block_index.specs.Edit.{Edits}

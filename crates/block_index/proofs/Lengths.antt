@@ -4,9 +4,9 @@ use Rattle.std.specs.Cmp.{IsTotalOrder}
 use Rattle.std.specs.Ordering.{is_le}
 use Rattle.std.proofs.lemmas.List.{length-take-le}
 use Rattle.std.proofs.Math.Seq.{drop-append_seam, drop-cons, take-add, take-suc}
-use Rattle.rising.specs.Counting.{one_if}
-use Rattle.rising.specs.Rising.{Above, IsRising}
-use Rattle.rising.proofs.Rising.{turned}
+use Rattle.sorted_sets.specs.Counting.{one_if}
+use Rattle.sorted_sets.specs.Rising.{Above, IsRising}
+use Rattle.sorted_sets.proofs.Rising.{turned}
 use Rattle.block_index.specs.Blocks.{keys_of, keys_between}
 use Rattle.block_index.specs.Groups.{index_of, IsInside}
 use Rattle.block_index.specs.Search.{keys_before, keys_from, Below, Begins, Stands}

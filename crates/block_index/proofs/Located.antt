@@ -3,8 +3,8 @@ use Rattle.std.proofs.Common.{◌≡◌, ℕ, zero, suc, ◌+◌, ◌-◌, ◌*�
 use Rattle.std.specs.Cmp.{IsTotalOrder}
 use Rattle.std.proofs.lemmas.List.{get_or_read, get_or-map, get_or-drop, length-drop}
 use Rattle.std.proofs.Math.Seq.{drop-cons}
-use Rattle.rising.specs.Rising.{Above, IsRising}
-use Rattle.rising.proofs.Rising.{turned}
+use Rattle.sorted_sets.specs.Rising.{Above, IsRising}
+use Rattle.sorted_sets.proofs.Rising.{turned}
 use Rattle.block_index.specs.Blocks.{keys_of, AreFilled}
 use Rattle.block_index.specs.Groups.{AreSized, index_of}
 use Rattle.block_index.specs.Search.{first_at, keys_before, keys_from, Below, Begins, IsAfterBlock, IsBeforeBlock, Stands}

@@ -3,8 +3,8 @@ use Rattle.std.proofs.Common.{◌≡◌, ℕ, Bool, true, false, cond, ◌&&◌,
 use Rattle.std.specs.Cmp.{IsTotalOrder}
 use Rattle.std.specs.Ordering.{is_le}
 use Rattle.std.proofs.lemmas.List.Elements.{filter-append}
-use Rattle.rising.specs.Rising.{Above, IsRising}
-use Rattle.rising.proofs.Rising.{turned, Above-weaken}
+use Rattle.sorted_sets.specs.Rising.{Above, IsRising}
+use Rattle.sorted_sets.proofs.Rising.{turned, Above-weaken}
 use Rattle.block_index.specs.Blocks.{keys_of, keys_between}
 use Rattle.block_index.specs.Search.{keys_before, keys_from, Below, Begins, Stands}
 use Rattle.block_index.specs.Taking.{up_to, Takes}

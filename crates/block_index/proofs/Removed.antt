@@ -4,9 +4,9 @@ use Rattle.std.specs.Cmp.{IsTotalOrder}
 use Rattle.std.specs.Ordering.{eq_by_cmp}
 use Rattle.std.specs.Set.{remove_key}
 use Rattle.std.proofs.Math.Seq.{drop-cons}
-use Rattle.rising.specs.Rising.{has, Above, IsRising}
-use Rattle.rising.proofs.Bools.{or_false_left, or_false_right}
-use Rattle.rising.proofs.Rising.{turned}
+use Rattle.sorted_sets.specs.Rising.{has, Above, IsRising}
+use Rattle.sorted_sets.proofs.Bools.{or_false_left, or_false_right}
+use Rattle.sorted_sets.proofs.Rising.{turned}
 use Rattle.block_index.specs.Blocks.{keys_of}
 use Rattle.block_index.specs.Search.{keys_before, keys_from, Below, Begins, Stands}
 use Rattle.block_index.proofs.Parts.{at_position}

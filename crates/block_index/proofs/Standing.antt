@@ -7,9 +7,9 @@ use Rattle.std.proofs.lemmas.Bool.{cases_lt}
 use Rattle.std.proofs.lemmas.Cmp.{alike_right}
 use Rattle.std.proofs.lemmas.List.{drop_all, length-drop, get_or-drop}
 use Rattle.std.proofs.Math.Seq.{take-suc, drop-cons}
-use Rattle.rising.specs.Rising.{has, Above, IsRising}
-use Rattle.rising.proofs.Bools.{or_false}
-use Rattle.rising.proofs.Rising.{turned, Above-weaken, has-above, has-append}
+use Rattle.sorted_sets.specs.Rising.{has, Above, IsRising}
+use Rattle.sorted_sets.proofs.Bools.{or_false}
+use Rattle.sorted_sets.proofs.Rising.{turned, Above-weaken, has-above, has-append}
 use Rattle.block_index.specs.Blocks.{keys_of, AreFilled}
 use Rattle.block_index.specs.Search.{first_at, keys_before, keys_from, Below, Begins, IsAfter, IsBefore, IsBeforeBlock, Stands}
 use Rattle.block_index.proofs.Parts.{at_position, AreFilled-drop}

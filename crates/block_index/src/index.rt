@@ -2,7 +2,7 @@
 
 ghost use Rattle.std.specs.Prelude.{◌≡◌, ℕ, ◌+◌, ◌*◌, ◌^◌, ◌<◌, ◌≤◌, not, [], length, slice_index_or, IfOk, OnOk, OnErr};
 ghost use Rattle.std.specs.{Bool.OnFalse, Ordering.eq_by_cmp, BTreeSet.insert_key, Set.remove_key};
-ghost use Rattle.rising.specs.Rising.{IsRising, has};
+ghost use Rattle.sorted_sets.specs.Rising.{IsRising, has};
 ghost use Rattle.comparison_steps.specs.Steps.{WithinSteps};
 ghost use Rattle.block_index.specs.{Blocks.AreFilled, Blocks.ChangesTwo, Blocks.keys_between, Blocks.keys_of};
 

@@ -1,7 +1,7 @@
 // Where a key stands among the groups of blocks, or would stand.
 
 ghost use Rattle.std.specs.Prelude.{◌≡◌, ◌+◌, ◌-◌, ◌<◌, ◌≤◌, length, map};
-ghost use Rattle.rising.specs.{Counting.one_if, Rising.IsRising};
+ghost use Rattle.sorted_sets.specs.{Counting.one_if, Rising.IsRising};
 ghost use Rattle.comparison_steps.specs.Steps.{WithinSteps};
 ghost use Rattle.block_index.specs.{Blocks.AreFilled, Blocks.keys_of};
 ghost use Rattle.block_index.specs.Groups.{AreGroups, IsInside, index_of};

@@ -1,8 +1,8 @@
 -- The document of the second page, by what both pages have of their own.
 use Rattle.std.proofs.Common.{◌≡◌, ℕ, List, [], Option, Some, None, inl, inr, refl, sym, ap, subst, ◌∙◌}
 use Rattle.std.specs.Prelude.{codes}
-use Rattle.rising.specs.Merging.{Changes, Merges}
-use Rattle.rising.proofs.Merged.{merges-none}
+use Rattle.sorted_sets.specs.Merging.{Changes, Merges}
+use Rattle.sorted_sets.proofs.Merged.{merges-none}
 use Rattle.json_spell.specs.Tree.{Tree, member_of}
 use Rattle.json_differing.specs.Differing.{Differ}
 use Rattle.json_spell.proofs.Opened.{some_is}

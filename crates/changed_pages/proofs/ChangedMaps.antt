@@ -1,9 +1,9 @@
 -- The list that a map of the second page gives, by what both pages have of their own.
 use Rattle.std.proofs.Common.{◌≡◌, ℕ, zero, List, [], ◌∷◌, ◌++◌, Option, Some, inl, inr, refl, sym, ap, subst, ◌∙◌}
 use Rattle.std.specs.Prelude.{◌⊎◌, ◌≢◌, codes}
-use Rattle.rising.specs.Rising.{In}
-use Rattle.rising.specs.Merging.{Merges}
-use Rattle.rising.proofs.Merged.{merges-none}
+use Rattle.sorted_sets.specs.Rising.{In}
+use Rattle.sorted_sets.specs.Merging.{Merges}
+use Rattle.sorted_sets.proofs.Merged.{merges-none}
 use Rattle.json_spell.specs.Tree.{Tree, object, Pairs, member_of}
 use Rattle.json_spell.specs.View.{pairs_of}
 use Rattle.json_differing.specs.Differing.{AreApart, AreLess, AreObjects, Differ}

@@ -3,12 +3,12 @@ use Rattle.std.proofs.Common.{◌≡◌, ℕ, Bool, true, false, ◌||◌, cond,
 use Rattle.std.specs.Prelude.{◌≢◌}
 use Rattle.std.specs.Str.{bytes_eq}
 use Rattle.std.proofs.lemmas.Slice.Eq.{bytes_eq-Decides}
-use Rattle.rising.specs.Rising.{In}
+use Rattle.sorted_sets.specs.Rising.{In}
 use Rattle.json_spell.specs.Tree.{Tree}
 use Rattle.json_spell.specs.View.{pairs_of}
 use Rattle.json_differing.specs.Differing.{AreApart}
-use Rattle.rising.specs.Merging.{Merges}
-use Rattle.rising.proofs.Merged.{first_in, second_in}
+use Rattle.sorted_sets.specs.Merging.{Merges}
+use Rattle.sorted_sets.proofs.Merged.{first_in, second_in}
 use Rattle.entity_json.specs.Maps.{entries, has_key}
 
 has_member : (key : List ℕ) (ms : List (List ℕ × Tree)) → has_key key (pairs_of ms) ≡ true → (o : List ℕ × Tree) × In o ms × (o.0 ≡ key)

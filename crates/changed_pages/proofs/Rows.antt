@@ -2,7 +2,7 @@
 use Rattle.std.proofs.Common.{◌≡◌, ℕ, suc, Bool, true, false, ◌||◌, cond, List, [], ◌∷◌, map, Option, Some, None, option_map, inl, inr, refl, sym, ap, subst, ◌∙◌}
 use Rattle.std.specs.Prelude.{◌⊎◌}
 use Rattle.std.specs.Str.{bytes_eq}
-use Rattle.rising.specs.Rising.{Each}
+use Rattle.sorted_sets.specs.Rising.{Each}
 use Rattle.json_spell.specs.Tree.{Tree, object, Pairs, first_there, last_member, member_of}
 use Rattle.json_spell.specs.View.{pairs_of}
 use Rattle.json_differing.specs.Differing.{AreObjects, Differ, Differs, Inside, InTurn, Row}

@@ -1,8 +1,8 @@
 -- The lists that merged members give are merged of those that their parts give.
 use Rattle.std.proofs.Common.{◌≡◌, List, [], ◌∷◌, ◌++◌, Option, Some, inl, inr, refl, sym, ap, subst, ◌∙◌}
 use Rattle.json_spell.proofs.Opened.{some_is}
-use Rattle.rising.specs.Merging.{Merges}
-use Rattle.rising.proofs.Merged.{merges-ahead-first, merges-ahead-second}
+use Rattle.sorted_sets.specs.Merging.{Merges}
+use Rattle.sorted_sets.proofs.Merged.{merges-ahead-first, merges-ahead-second}
 use Rattle.entity_json.specs.Joined.{Joined}
 use Rattle.entity_json.proofs.Agree.{Walks, steps-complete}
 

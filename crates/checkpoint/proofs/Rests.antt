@@ -4,10 +4,10 @@ use Rattle.std.specs.Ordering.{eq_by_cmp}
 use Rattle.std.specs.BTreeSet.{insert_key}
 use Rattle.std.specs.Prelude.{find}
 use Rattle.std.specs.List.{list_any}
-use Rattle.rising.specs.Rising.{has, IsRising}
-use Rattle.rising.proofs.Rising.{IsRising-insert_key}
-use Rattle.rising.proofs.Bools.{equal, or_false, or_true}
-use Rattle.rising.proofs.Finding.{list_any-insert_key}
+use Rattle.sorted_sets.specs.Rising.{has, IsRising}
+use Rattle.sorted_sets.proofs.Rising.{IsRising-insert_key}
+use Rattle.sorted_sets.proofs.Bools.{equal, or_false, or_true}
+use Rattle.sorted_sets.proofs.Finding.{list_any-insert_key}
 use Rattle.entity_model.specs.declared.event.Event.{Event}
 use Rattle.entity_model.specs.Event.{event_cmp, event_cmp_same, event_cmp_total}
 use Rattle.reorder_buffer.specs.declared.taken.Taken.TheVariants.{New, Repeat, Late}

@@ -5,9 +5,9 @@ use Rattle.std.specs.Ordering.{eq_by_cmp}
 use Rattle.std.specs.Result.{OnOk}
 use Rattle.std.proofs.lemmas.List.{length-map}
 use Rattle.std.proofs.lemmas.List.Elements.{filter_map-append}
-use Rattle.rising.specs.Rising.{has}
-use Rattle.rising.proofs.Bools.{equal}
-use Rattle.rising.proofs.Rising.{has-append}
+use Rattle.sorted_sets.specs.Rising.{has}
+use Rattle.sorted_sets.proofs.Bools.{equal}
+use Rattle.sorted_sets.proofs.Rising.{has-append}
 use Rattle.entity_model.specs.Event.{event_cmp, event_cmp_same}
 use Rattle.entity_state.specs.declared.record.Record.{Record}
 use Rattle.side_output.specs.declared.entry.Cause.TheVariants.{Missing, Failed, Unfit}

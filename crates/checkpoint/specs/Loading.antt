@@ -6,7 +6,7 @@ use Rattle.entity_model.specs.declared.event.Event.{Event}
 use Rattle.entity_model.specs.Event.{event_cmp}
 use Rattle.reorder_buffer.specs.Buffered.{Buffered, first_due}
 use Rattle.reorder_buffer.specs.Watermarks.{reached}
-use Rattle.rising.specs.Rising.{IsRising, has}
+use Rattle.sorted_sets.specs.Rising.{IsRising, has}
 use Rattle.side_output.specs.declared.entry.Cause.TheVariants.{Missing, Failed, Unfit}
 use Rattle.side_output.specs.declared.entry.Entry.{Entry}
 use Rattle.side_output.specs.declared.entry.Entry.TheVariants.{Late, Revision}

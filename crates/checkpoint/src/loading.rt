@@ -5,7 +5,7 @@ ghost use Rattle.std.specs.Str.{IsUtf8};
 ghost use Rattle.wq_io.specs.Streams.{IsAtEnd};
 ghost use Rattle.entity_model.specs.{Event.event_cmp, declared.event.Event.Event};
 ghost use Rattle.replay_model.specs.{Explained.is_applied, Replies.failed_events, Versions.meaning_by};
-ghost use Rattle.rising.specs.Rising.{has};
+ghost use Rattle.sorted_sets.specs.Rising.{has};
 ghost use Rattle.world.specs.{Meaning.meaning, Roomed.HasRoom, WorldState.WorldState};
 ghost use Rattle.snapshot.specs.{File.saved_in_bytes, LineText.line_of, Whole.whole};
 ghost use Rattle.checkpoint.specs.Causes.{HasCause};

@@ -7,8 +7,8 @@ use Rattle.std.specs.FinMap.{entries_sorted, get-entries}
 use Rattle.std.specs.FinMap.Entries.{find, is_sorted}
 use Rattle.std.specs.Ordering.{eq_by_cmp}
 use Rattle.std.specs.Cmp.{eq_by_cmp_equiv}
-use Rattle.rising.specs.Rising.{Each, has}
-use Rattle.rising.proofs.Bools.{and_left, or_true}
+use Rattle.sorted_sets.specs.Rising.{Each, has}
+use Rattle.sorted_sets.proofs.Bools.{and_left, or_true}
 use Rattle.wq_io.specs.Lines.{lines}
 use Rattle.entity_model.specs.declared.id.EntityId.{EntityId}
 use Rattle.entity_model.specs.declared.event.Event.{Event}

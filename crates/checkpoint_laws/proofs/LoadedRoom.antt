@@ -6,10 +6,10 @@ use Rattle.std.specs.FinMap as finite
 use Rattle.std.specs.FinMap.{entries_sorted, get-entries, get-from_entries, same_map}
 use Rattle.std.specs.FinMap.Entries.{below_all, find, is_sorted}
 use Rattle.std.specs.Ordering.{eq_by_cmp}
-use Rattle.rising.specs.Rising.{Each, has}
-use Rattle.rising.proofs.Bools.{equal, or_true}
-use Rattle.rising.proofs.Keys.{and_first, and_second}
-use Rattle.rising.proofs.Rising.{has-append, has-sorted, has_itself}
+use Rattle.sorted_sets.specs.Rising.{Each, has}
+use Rattle.sorted_sets.proofs.Bools.{equal, or_true}
+use Rattle.sorted_sets.proofs.Keys.{and_first, and_second}
+use Rattle.sorted_sets.proofs.Rising.{has-append, has-sorted, has_itself}
 use Rattle.rdf_term.specs.declared.term.Term.{Term}
 use Rattle.rdf_term.specs.declared.triple.Triple.{Triple}
 use Rattle.rdf_term.specs.Order.{term_cmp, term_cmp-total, triple_cmp, triple_cmp-total}

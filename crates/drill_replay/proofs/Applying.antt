@@ -1,7 +1,7 @@
 -- An application leaves fewer events waiting.
 use Rattle.std.proofs.Common.{◌<◌, List, ℕ, length, Option}
 use Rattle.revisions.specs.Revisions.{Contents}
-use Rattle.rising.proofs.FirstPassing.{shorter_without}
+use Rattle.sorted_sets.proofs.FirstPassing.{shorter_without}
 use Rattle.replay_model.specs.ReplayState.{ReplayState}
 use Rattle.world.specs.Applying.{Applies}
 use Rattle.world.specs.declared.applied.Applied.{Applied}

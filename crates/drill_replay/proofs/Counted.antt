@@ -1,7 +1,7 @@
 -- How many terms the triples of the parts of a page have.
 use Rattle.std.proofs.Common.{◌≡◌, refl, sym, subst, inl, inr, ℕ, ◌+◌, Bool, true, false, List, [], ◌∷◌, ◌++◌, Option, Some, None, arith}
 use Rattle.std.specs.List.{flat_map}
-use Rattle.rising.specs.Rising.{In}
+use Rattle.sorted_sets.specs.Rising.{In}
 use Rattle.rdf_term.specs.declared.term.Term.{Term}
 use Rattle.rdf_term.specs.declared.triple.Triple.{Triple}
 use Rattle.entity_model.specs.declared.entity.Entity.{Entity}

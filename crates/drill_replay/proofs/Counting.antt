@@ -1,8 +1,8 @@
 -- How one delivery more is counted, and what the world answers to it.
 use Rattle.std.proofs.Common.{◌≡◌, ◌∙◌, refl, sym, ap, ℕ, ◌+◌, Bool, true, false, cond, not, ◌&&◌, List, [], ◌∷◌, ◌++◌, append-nil, length, length-append, Option, None, Some, arith}
-use Rattle.rising.specs.Rising.{has}
-use Rattle.rising.proofs.Filtering.{has-filter}
-use Rattle.rising.proofs.Rising.{has-sorted}
+use Rattle.sorted_sets.specs.Rising.{has}
+use Rattle.sorted_sets.proofs.Filtering.{has-filter}
+use Rattle.sorted_sets.proofs.Rising.{has-sorted}
 use Rattle.entity_model.specs.declared.event.Event.{Event}
 use Rattle.entity_model.specs.Event.{event_cmp, event_cmp_same, event_cmp_total}
 use Rattle.delivery.specs.declared.Delivery.{Delivery}

@@ -4,8 +4,8 @@ use Rattle.std.specs.BTreeSet.{insert_key}
 use Rattle.std.specs.List.{flat_map}
 use Rattle.std.specs.Ordering.{match_ordering}
 use Rattle.std.proofs.lemmas.List.{length-map}
-use Rattle.rising.specs.Rising.{In, sorted}
-use Rattle.rising.proofs.Members.{has-member, member-has, member-sorted}
+use Rattle.sorted_sets.specs.Rising.{In, sorted}
+use Rattle.sorted_sets.proofs.Members.{has-member, member-has, member-sorted}
 use Rattle.rdf_term.specs.declared.term.Term.{Term}
 use Rattle.rdf_term.specs.declared.term.Term.TheVariants.{Iri}
 use Rattle.rdf_term.specs.declared.triple.Triple.{Triple}

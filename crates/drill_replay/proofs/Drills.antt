@@ -5,7 +5,7 @@ use Rattle.std.proofs.lemmas.List.Concat.{flat_map-append}
 use Rattle.delivery.specs.declared.Delivery.{Delivery}
 use Rattle.entity_model.specs.declared.event.Event.{Event}
 use Rattle.reorder_buffer.specs.Buffered.{first_due}
-use Rattle.rising.proofs.FirstPassing.{shorter_without}
+use Rattle.sorted_sets.proofs.FirstPassing.{shorter_without}
 use Rattle.replay_model.specs.Play.{Replies}
 use Rattle.replay_model.specs.ReplayState.{ReplayState, after_applying, after_due, after_end, after_next, after_some, following, nothing_delivered}
 use Rattle.replay_model.proofs.Following.{after_due-none, after_due-some, following-end}

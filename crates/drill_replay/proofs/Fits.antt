@@ -3,9 +3,9 @@ use Rattle.std.proofs.Common.{◌≡◌, refl, sym, subst, ◌∙◌, ap, inl, �
 use Rattle.std.specs.FinMap as map
 use Rattle.std.specs.List.{flat_map}
 use Rattle.std.specs.Option.{option_map}
-use Rattle.rising.specs.Rising.{In, has}
-use Rattle.rising.proofs.Members.{has-member, member-has}
-use Rattle.rising.proofs.Rising.{has-sorted}
+use Rattle.sorted_sets.specs.Rising.{In, has}
+use Rattle.sorted_sets.proofs.Members.{has-member, member-has}
+use Rattle.sorted_sets.proofs.Rising.{has-sorted}
 use Rattle.rdf_term.specs.declared.term.Term.{Term}
 use Rattle.rdf_term.specs.declared.triple.Triple.{Triple}
 use Rattle.rdf_term.specs.Order.{term_cmp, term_cmp-total, triple_cmp, triple_cmp-total}

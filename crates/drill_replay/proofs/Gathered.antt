@@ -1,7 +1,7 @@
 -- What stands in lists, and in what is gathered over them.
 use Rattle.std.proofs.Common.{◌≡◌, ◌⊎◌, refl, sym, subst, ◌∙◌, ap, inl, inr, ⊎_elim, Bool, true, false, cond, List, [], ◌∷◌, ◌++◌, filter}
 use Rattle.std.specs.List.{flat_map}
-use Rattle.rising.specs.Rising.{In}
+use Rattle.sorted_sets.specs.Rising.{In}
 
 module _ {A : Type 0} where
   pub in_front : (a : A) (xs ys : List A) → In a xs → In a (xs ++ ys)

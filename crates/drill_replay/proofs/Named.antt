@@ -21,12 +21,12 @@ use Rattle.reorder_buffer.specs.declared.taken.Taken.{Taken}
 use Rattle.reorder_buffer.specs.declared.taken.Taken.TheVariants.{New, Repeat, Late}
 use Rattle.reorder_buffer.specs.Watermarks.{is_due}
 use Rattle.reorder_buffer.specs.Buffered.{after_answer, answer_to, first_due}
-use Rattle.rising.specs.Rising.{has}
-use Rattle.rising.proofs.Bools.{and_left, and_right, clash, equal, or_true}
-use Rattle.rising.proofs.Filtering.{has-filter}
-use Rattle.rising.proofs.FirstPassing.{has-found, has-remove_key}
-use Rattle.rising.proofs.Pushes.{by_pushes}
-use Rattle.rising.proofs.Rising.{has-append, has-insert_key, has_itself}
+use Rattle.sorted_sets.specs.Rising.{has}
+use Rattle.sorted_sets.proofs.Bools.{and_left, and_right, clash, equal, or_true}
+use Rattle.sorted_sets.proofs.Filtering.{has-filter}
+use Rattle.sorted_sets.proofs.FirstPassing.{has-found, has-remove_key}
+use Rattle.sorted_sets.proofs.Pushes.{by_pushes}
+use Rattle.sorted_sets.proofs.Rising.{has-append, has-insert_key, has_itself}
 use Rattle.replay_model.specs.Acceptance.{event_of, events}
 use Rattle.replay_model.specs.Explained.{is_fetching, revision_wanted}
 use Rattle.replay_model.specs.Fate.{is_of}

@@ -1,14 +1,14 @@
 -- There is room for each page that the world of a drill wants.
 use Rattle.std.proofs.Common.{◌≡◌, ◌∙◌, refl, sym, ap, subst, inl, ⊎_elim, ◌||◌, ℕ, ◌<◌, ◌≤◌, true, List, [], ◌∷◌, ◌++◌, append_assoc, None, Some, arith}
 use Rattle.std.proofs.lemmas.List.Elements.{filter_map-append}
-use Rattle.rising.proofs.Bools.{clash}
+use Rattle.sorted_sets.proofs.Bools.{clash}
 use Rattle.entity_json.specs.Document.{unfit_of}
 use Rattle.delivery.specs.declared.Delivery.{Delivery}
 use Rattle.entity_model.specs.declared.event.Event.{Event}
 use Rattle.entity_model.specs.declared.mapping.MappingVersion.TheVariants.{One}
 use Rattle.entity_model.specs.Event.{event_cmp}
-use Rattle.rising.specs.Rising.{has}
-use Rattle.rising.proofs.Rising.{has-append}
+use Rattle.sorted_sets.specs.Rising.{has}
+use Rattle.sorted_sets.proofs.Rising.{has-append}
 use Rattle.reorder_buffer.specs.Buffered.{first_due}
 use Rattle.replay_model.specs.Acceptance.{event_of, events}
 use Rattle.replay_model.specs.Explained.{is_fetching, revision_wanted}

@@ -2,7 +2,7 @@
 use Rattle.std.proofs.Common.{◌≡◌, ◌∙◌, refl, sym, ap, ℕ, ◌-◌, ◌*◌, ◌%◌, ◌==◌, Bool, true, false, if◌then◌else◌, List, [], ◌∷◌, ◌++◌, append-nil, Option, None, filter_map, unwrap_or}
 use Rattle.std.specs.List.{flat_map, last_or, range_with_len}
 use Rattle.std.proofs.lemmas.List.Elements.{filter_map-append}
-use Rattle.rising.proofs.Pushes.{first_empty}
+use Rattle.sorted_sets.proofs.Pushes.{first_empty}
 use Rattle.delivery.specs.declared.Delivery.{Delivery}
 use Rattle.delivery.specs.declared.Delivery.TheVariants.{Watermark}
 use Rattle.entity_model.specs.declared.event.Kind.TheVariants.{Delete, Edit}

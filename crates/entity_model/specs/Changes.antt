@@ -1,7 +1,7 @@
 -- What two documents of an entity have of their own.
 use Rattle.std.specs.Prelude.{◌≡◌, ◌≢◌, List}
-use Rattle.rising.specs.Rising.{In}
-use Rattle.rising.specs.Merging.{Merges, Changes}
+use Rattle.sorted_sets.specs.Rising.{In}
+use Rattle.sorted_sets.specs.Merging.{Merges, Changes}
 use Rattle.entity_model.specs.declared.statement.Statement.{Statement}
 use Rattle.entity_model.specs.declared.entity.Entity.{Entity}
 

@@ -3,10 +3,10 @@ use Rattle.std.proofs.Common.{◌≡◌, ℕ, ◌+◌, ◌≤◌, Bool, true, fa
 use Rattle.std.specs.Prelude.{sum_by, ◌≢◌}
 use Rattle.std.specs.List.{flat_map, list_any}
 use Rattle.std.specs.Ordering.{eq_by_cmp}
-use Rattle.rising.specs.Rising.{In}
-use Rattle.rising.proofs.Bools.{equal}
-use Rattle.rising.specs.Merging.{Balance, IsWithin, Merges}
-use Rattle.rising.proofs.Balanced.{balance-append, balance-flat_map, balance-swap, changes_balance, merged_sum, same_sum, second-within, weighed_each, within-append, within-flat_map, within-same}
+use Rattle.sorted_sets.specs.Rising.{In}
+use Rattle.sorted_sets.proofs.Bools.{equal}
+use Rattle.sorted_sets.specs.Merging.{Balance, IsWithin, Merges}
+use Rattle.sorted_sets.proofs.Balanced.{balance-append, balance-flat_map, balance-swap, changes_balance, merged_sum, same_sum, second-within, weighed_each, within-append, within-flat_map, within-same}
 use Rattle.rdf_term.specs.declared.term.Term.{Term}
 use Rattle.rdf_term.specs.declared.triple.Triple.{Triple}
 use Rattle.entity_model.specs.EntityId.{entity_cmp, entity_cmp_same}

@@ -1,7 +1,7 @@
 -- The counts of a document that changed.
 use Rattle.std.proofs.Common.{◌≡◌, ℕ, ◌+◌, List, [], ◌∷◌, cond, length, inl, inr, refl, sym, ap, ◌∙◌, arith}
-use Rattle.rising.specs.Merging.{Changes, Merges}
-use Rattle.rising.proofs.Balanced.{merged_sum}
+use Rattle.sorted_sets.specs.Merging.{Changes, Merges}
+use Rattle.sorted_sets.proofs.Balanced.{merged_sum}
 use Rattle.entity_model.specs.declared.statement.Statement.{Statement}
 use Rattle.entity_model.specs.declared.entity.Entity.{Entity}
 use Rattle.entity_model.specs.Changes.{EntityChanges}

@@ -3,8 +3,8 @@ use Rattle.std.proofs.Common.{ℕ, List, Ordering, subst}
 use Rattle.std.specs.Cmp.{IsTotalOrder}
 use Rattle.std.specs.FinMap.{IsAntisymmetric}
 use Rattle.std.specs.List.{AllByRecursion, flat_map}
-use Rattle.rising.specs.Rising.{sorted}
-use Rattle.rising.proofs.Members.{member-sorted}
+use Rattle.sorted_sets.specs.Rising.{sorted}
+use Rattle.sorted_sets.proofs.Members.{member-sorted}
 use Rattle.rdf_term.specs.Fit.{HasFitAndShortTerms}
 use Rattle.rdf_term.specs.Order.{triple_cmp, triple_cmp-total}
 use Rattle.rdf_term.proofs.Texts.{triple_cmp-IsAntisymmetric}

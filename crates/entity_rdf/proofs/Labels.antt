@@ -1,6 +1,6 @@
 -- The labels of the dump's blank nodes are short, rule by rule: the only ones are those of unknown values, hashes of 32 digits.
 use Rattle.std.proofs.Common.{ℕ, List, [], ◌∷◌, ◌++◌, map, Option, Some, None, refl}
-use Rattle.rising.specs.Rising.{sorted}
+use Rattle.sorted_sets.specs.Rising.{sorted}
 use Rattle.rdf_term.specs.declared.term.Term.TheVariants.{Iri}
 use Rattle.rdf_term.specs.declared.triple.Triple.{Triple}
 use Rattle.rdf_term.specs.Grammar.{is_word}

@@ -5,9 +5,9 @@ use Rattle.std.specs.Ordering.{eq_by_cmp}
 use Rattle.std.specs.List.{AllByRecursion, flat_map}
 use Rattle.std.proofs.lemmas.Cmp.{tied_itself}
 use Rattle.std.proofs.lemmas.List.Sums.{sum_by-cons}
-use Rattle.rising.specs.Rising.{In}
-use Rattle.rising.proofs.Bools.{equal}
-use Rattle.rising.specs.Merging.{IsWithin}
+use Rattle.sorted_sets.specs.Rising.{In}
+use Rattle.sorted_sets.proofs.Bools.{equal}
+use Rattle.sorted_sets.specs.Merging.{IsWithin}
 use Rattle.rdf_term.specs.declared.triple.Triple.{Triple}
 use Rattle.rdf_term.specs.Fit.{HasFitAndShortTerms}
 use Rattle.rdf_term.specs.Order.{triple_cmp, triple_cmp-total}

@@ -1,6 +1,6 @@
 -- What the store keeps of a document: what munging leaves of the triples that the rules of the dump give.
 use Rattle.std.specs.Prelude.{ℕ}
-use Rattle.rising.specs.Rising.{In}
+use Rattle.sorted_sets.specs.Rising.{In}
 use Rattle.rdf_term.specs.declared.triple.Triple.{Triple}
 use Rattle.entity_model.specs.declared.id.EntityId.{EntityId}
 use Rattle.entity_model.specs.declared.document.Document.{Document}

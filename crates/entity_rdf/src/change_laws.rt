@@ -3,7 +3,7 @@
 ghost use Rattle.std.specs.Prelude.{ℕ};
 ghost use Rattle.std.specs.List.{AllByRecursion};
 ghost use Rattle.rdf_term.specs.Fit.{HasFitAndShortTerms};
-ghost use Rattle.rising.specs.Merging.{Balance, IsWithin};
+ghost use Rattle.sorted_sets.specs.Merging.{Balance, IsWithin};
 ghost use Rattle.entity_model.specs.{declared.id.EntityId.EntityId, declared.entity.Entity.Entity};
 ghost use Rattle.entity_model.specs.{declared.document.Document.TheVariants.Entity as AnEntity, Document.IsSmall};
 ghost use Rattle.entity_model.specs.declared.mapping.MappingVersion.{MappingVersion};

@@ -12,10 +12,10 @@ use Rattle.std.proofs.lemmas.Cmp.{eq_by_cmp_equiv}
 use Rattle.std.proofs.lemmas.List.Sorted.{list_any-IsPermutation}
 use Rattle.std.proofs.lemmas.Map.Keys.{IsDistinct-IsPermutation, IsDistinct-head, IsDistinct-tail, apart_from_distinct, sorted_from_all_adjacent}
 use Rattle.std.proofs.lemmas.Map.Made.{is_some-lookup}
-use Rattle.rising.specs.Rising.{has, IsRising}
-use Rattle.rising.proofs.Keys.{rising_keys}
-use Rattle.rising.proofs.Rising.{same_rising}
-use Rattle.rising.proofs.Sorting.{IsRising-from_sorted}
+use Rattle.sorted_sets.specs.Rising.{has, IsRising}
+use Rattle.sorted_sets.proofs.Keys.{rising_keys}
+use Rattle.sorted_sets.proofs.Rising.{same_rising}
+use Rattle.sorted_sets.proofs.Sorting.{IsRising-from_sorted}
 use Rattle.entity_model.specs.declared.id.EntityId.{EntityId}
 use Rattle.entity_model.specs.declared.event.Event.{Event}
 use Rattle.entity_model.specs.EntityId.{entity_cmp, entity_cmp_total, entity_cmp_same}

@@ -9,8 +9,8 @@ use Rattle.std.specs.Set.{remove_key}
 use Rattle.entity_model.specs.declared.id.EntityId.{EntityId}
 use Rattle.std.specs.Ordering.{is_eq}
 use Rattle.std.proofs.lemmas.Cmp.{tied_itself}
-use Rattle.rising.specs.Rising.{has}
-use Rattle.rising.proofs.Rising.{has-insert_key}
+use Rattle.sorted_sets.specs.Rising.{has}
+use Rattle.sorted_sets.proofs.Rising.{has-insert_key}
 use Rattle.entity_model.specs.EntityId.{entity_cmp, entity_cmp_total}
 use Rattle.entity_state.specs.declared.record.Record.{Record}
 use Rattle.entity_state.specs.Tabled.{Tabled, records_of}

@@ -4,7 +4,7 @@ ghost use Rattle.std.specs.Prelude.{◌≡◌, ◌+◌, ◌^◌, ◌<◌, ◌≤
 ghost use Rattle.std.specs.{Option.option_copied, Ordering.eq_by_cmp, List.IsDistinct};
 ghost use Rattle.std.specs.FinMap as map;
 ghost use Rattle.indexmap.specs.IndexMap.{get, keys, spare, IsUnique};
-ghost use Rattle.rising.specs.Rising.{has};
+ghost use Rattle.sorted_sets.specs.Rising.{has};
 ghost use Rattle.entity_model.specs.EntityId.{entity_cmp};
 ghost use Rattle.entity_state.specs.Tabled.{records_of};
 ghost use Rattle.entity_state.specs.Table.{no_records, is_there, has_room, with_room, after_putting, after_setting};

@@ -10,7 +10,7 @@ use Rattle.replica.specs.Laws.{IsGreatest}
 use Rattle.replica.specs.Replica.{after, numbered, terms_with}
 use Rattle.text_output.specs.declared.write.Unwritten.{Unwritten}
 use Rattle.text_output.specs.declared.write.Unwritten.TheVariants.{WriteFault as NotWritten, OutOfMemory as UnwrittenOutOfMemory}
-use Rattle.words.specs.Options.{FollowChoices, follow_max_bytes_of}
+use Rattle.arguments.specs.Options.{FollowChoices, follow_max_bytes_of}
 use Rattle.following.specs.declared.stop.RecordCause.{RecordCause}
 use Rattle.following.specs.declared.stop.RecordCause.TheVariants.{LineLong, Head, Triple, Order, Short}
 use Rattle.following.specs.declared.stop.FollowStop.{FollowStop}

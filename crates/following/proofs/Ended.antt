@@ -3,7 +3,7 @@ use Rattle.std.proofs.Common.{◌≡◌, Ok, Err, inr, refl, ap, subst}
 use Rattle.replica.specs.Replica.{ReplicaState, after}
 use Rattle.text_output.specs.declared.write.Unwritten.{Unwritten}
 use Rattle.text_output.specs.Printing.{Prints}
-use Rattle.words.specs.Options.{FollowChoices, follow_max_bytes_of}
+use Rattle.arguments.specs.Options.{FollowChoices, follow_max_bytes_of}
 use Rattle.following.specs.Following.{Ending, HasFollowed, FollowMoment, StoppedFollowing, follower_limit, replica_text}
 use Rattle.following.specs.Stop.{stop_of_unwritten}
 use Rattle.following.specs.Taking.{HadRoom, HasTakenRecords}

@@ -1,7 +1,7 @@
 -- A line that is refused is none of a record.
 use Rattle.std.proofs.Common.{◌≡◌, ◌≢◌, ◌⊎◌, inl, inr, ⊎_elim, refl, sym, subst, ◌∙◌, ap, ℕ, ◌<◌, true≢false, List, [], ◌∷◌, ◌++◌, length, Option, None, Some, append_assoc, append-nil, length-append, arith}
 use Rattle.std.proofs.lemmas.List.{append_cancel_left}
-use Rattle.rising.specs.Rising.{Each}
+use Rattle.sorted_sets.specs.Rising.{Each}
 use Rattle.wq_io.specs.Lines.{lines}
 use Rattle.replica.specs.declared.reader.Begun.{Begun}
 use Rattle.replica.specs.declared.reader.PatchFault.TheVariants.{Head as NoHead, Triple as NoTriple, Order as OutOfOrder}

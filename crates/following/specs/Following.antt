@@ -10,7 +10,7 @@ use Rattle.replica.specs.Replica.{after}
 use Rattle.replay_model.specs.Transcript.{export_section}
 use Rattle.text_output.specs.declared.write.Unwritten.{Unwritten}
 use Rattle.text_output.specs.Printing.{IsCutShort, Output, output}
-use Rattle.words.specs.Options.{FollowChoices, follow_max_bytes_of}
+use Rattle.arguments.specs.Options.{FollowChoices, follow_max_bytes_of}
 use Rattle.following.specs.declared.stop.FollowStop.{FollowStop}
 use Rattle.following.specs.Input.{Input, input}
 use Rattle.following.specs.Reading.{AreRecords}

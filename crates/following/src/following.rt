@@ -1,16 +1,16 @@
 // A follower: it takes the records of its input, and prints what it has then.
 
 ghost use Rattle.std.specs.Prelude.{◌≤◌, ◌≡◌, IfErr, IfSome, OnOk};
-ghost use Rattle.words.specs.Options.{follow_max_bytes_of};
+ghost use Rattle.arguments.specs.Options.{follow_max_bytes_of};
 ghost use Rattle.following.specs.{Following.Ending, Following.StoppedFollowing, Following.follow_moment, Reading.TakesLinesByNeed};
 
 use crate::printing::print_replica;
 use crate::stop::FollowStop;
 use crate::taking::take_records;
+use arguments::FollowOptions;
 use replica::Replica;
 use std::alloc::Global;
 use std::hash::RandomState;
-use words::FollowOptions;
 use wq_io::{Sink, Source};
 
 /// For how many distinct terms a follower has room.

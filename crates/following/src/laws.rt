@@ -4,7 +4,7 @@
 ghost use Rattle.std.specs.Prelude.{◌≡◌, ◌≤◌, ◌⊎◌, ℕ, List, length, Some, None};
 ghost use Rattle.wq_io.specs.Streams.{Rose};
 ghost use Rattle.replica.specs.{declared.record.PatchRecord.PatchRecord, Laws.IsGreatest};
-ghost use Rattle.words.specs.Options.{FollowChoices, follow_max_bytes_of};
+ghost use Rattle.arguments.specs.Options.{FollowChoices, follow_max_bytes_of};
 ghost use Rattle.following.specs.{declared.stop.FollowStop.FollowStop, declared.stop.RecordCause.RecordCause};
 ghost use Rattle.following.specs.Following.{Ending, FollowMoment, StoppedFollowing, follower_limit};
 ghost use Rattle.following.specs.{Input.Input, Reading.AreRecords, Stop.HasNoRoomForRecord, Stop.StandsAtLine, Taking.HadRoom};

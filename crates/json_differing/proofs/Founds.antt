@@ -1,6 +1,6 @@
 -- What the readers of two texts find, by what they read.
 use Rattle.std.proofs.Common.{◌≡◌, ℕ, suc, All, List, [], ◌∷◌, map, Some, option_map, inl, inr, refl, sym, ap, subst, ◌∙◌}
-use Rattle.rising.specs.Merging.{Changes}
+use Rattle.sorted_sets.specs.Merging.{Changes}
 use Rattle.json_spell.specs.declared.json.Member.{Member}
 use Rattle.json_differing.specs.declared.spelled.Spelled.{Spelled}
 use Rattle.json_differing.specs.declared.differing.Texts.{Texts}

@@ -1,8 +1,8 @@
 -- Two lists of members gone over in step: what is gone from the first and what came to the second so far.
 use Rattle.std.proofs.Common.{◌≡◌, ℕ, zero, suc, ◌+◌, ◌<◌, ◌≤◌, List, [], ◌∷◌, ◌++◌, length, map, take, get_or, All, Some, refl, sym, ap, subst, ◌∙◌, arith}
 use Rattle.std.proofs.lemmas.List.{map-append, take_more}
-use Rattle.rising.specs.Merging.{Changes, Merges}
-use Rattle.rising.proofs.Merged.{merges-first, merges-second}
+use Rattle.sorted_sets.specs.Merging.{Changes, Merges}
+use Rattle.sorted_sets.proofs.Merged.{merges-first, merges-second}
 use Rattle.json_spell.specs.declared.json.Member.{Member}
 use Rattle.json_differing.specs.declared.spelled.Spelled.{Spelled}
 use Rattle.json_differing.specs.Differing.{Members}

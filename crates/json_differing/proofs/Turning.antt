@@ -1,7 +1,7 @@
 -- Two objects gone over in step, whose members have the same names in the same order.
 use Rattle.std.proofs.Common.{◌≡◌, ℕ, false, true, ◌==◌, List, [], ◌∷◌, ◌++◌, map, Option, Some, None, refl, sym, ap, subst, ◌∙◌}
 use Rattle.std.proofs.lemmas.List.{map-append}
-use Rattle.rising.specs.Rising.{Each}
+use Rattle.sorted_sets.specs.Rising.{Each}
 use Rattle.json_spell.specs.declared.json.Member.{Member}
 use Rattle.json_differing.specs.declared.differing.Texts.{Texts}
 use Rattle.json_differing.specs.declared.differing.Found.{Found}

@@ -1,8 +1,8 @@
 -- What two trees have of their own: each less the members of its maps that both have.
 use Rattle.std.specs.Prelude.{◌≡◌, ◌≢◌, ◌⊎◌, ◌||◌, Bool, false, ℕ, zero, suc, List, [], ◌∷◌, map}
 use Rattle.std.specs.Str.{bytes_eq}
-use Rattle.rising.specs.Rising.{Each, In}
-use Rattle.rising.specs.Merging.{Changes}
+use Rattle.sorted_sets.specs.Rising.{Each, In}
+use Rattle.sorted_sets.specs.Merging.{Changes}
 use Rattle.json_spell.specs.Tree.{Tree, object, Pairs}
 use Rattle.json_spell.specs.View.{pairs_of}
 

@@ -1,7 +1,7 @@
 // The members that each of two objects has of its own.
 
 ghost use Rattle.std.specs.Prelude.{All, ◌≡◌, ◌<◌, ◌≤◌, true, length, map, take, Some, IfSome, IfOk, OnOk};
-ghost use Rattle.rising.specs.Merging.{Changes, Merges};
+ghost use Rattle.sorted_sets.specs.Merging.{Changes, Merges};
 ghost use Rattle.json_differing.specs.{Differing.AreApart, Differing.Members, Differing.has_name, Spelled.HasTwin, Spelled.spelled_view};
 ghost use Rattle.json_spell.specs.View.{json_view, member_view};
 

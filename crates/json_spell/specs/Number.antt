@@ -1,7 +1,7 @@
 -- RFC 8259, section 6: numbers.
 use Rattle.std.specs.Prelude.{ℕ, List, [], ◌∷◌, ◌++◌, Bool, true, ◌≡◌, ◌⊎◌, ◌&&◌, ◌||◌, ◌==◌, nat_le}
 use Rattle.std.specs.Char.{is_ascii_digit}
-use Rattle.rising.specs.Rising.{Each}
+use Rattle.sorted_sets.specs.Rising.{Each}
 
 -- each byte passes the test
 abbrev pub EachPasses : (ℕ → Bool) → List ℕ → Type 0

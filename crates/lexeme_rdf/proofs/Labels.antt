@@ -1,6 +1,6 @@
 -- The labels of the blank nodes in the dump of a lexeme are short: the only ones are those of unknown values in statements.
 use Rattle.std.proofs.Common.{ℕ, List, refl}
-use Rattle.rising.specs.Rising.{sorted}
+use Rattle.sorted_sets.specs.Rising.{sorted}
 use Rattle.rdf_term.specs.declared.term.Term.TheVariants.{Iri}
 use Rattle.rdf_term.specs.declared.triple.Triple.{Triple}
 use Rattle.rdf_term.specs.Order.{triple_cmp}

@@ -1,6 +1,6 @@
 -- The dump of a lexeme again, rule by rule: which triples its page says.
 use Rattle.std.specs.Prelude.{◌≡◌, ℕ, List, length, Some}
-use Rattle.rising.specs.Rising.{In}
+use Rattle.sorted_sets.specs.Rising.{In}
 use Rattle.rdf_term.specs.declared.term.Term.{Term}
 use Rattle.rdf_term.specs.declared.term.Term.TheVariants.{Plain}
 use Rattle.rdf_term.specs.declared.triple.Triple.{Triple}

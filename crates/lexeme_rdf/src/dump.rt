@@ -3,7 +3,7 @@
 ghost use Rattle.std.specs.Prelude.{◌≡◌, IfOk};
 ghost use Rattle.std.specs.List.{AllByRecursion, flat_map};
 ghost use Rattle.rdf_term.specs.{Fit.HasFitAndShortTerms, Order.triple_cmp};
-ghost use Rattle.rising.specs.Rising.{sorted};
+ghost use Rattle.sorted_sets.specs.Rising.{sorted};
 ghost use Rattle.munger.specs.Munging.{munge, munged};
 ghost use Rattle.entity_model.specs.Lexeme.{IsSmallLexeme};
 ghost use Rattle.lexeme_rdf.specs.Dump.{lexdump};

@@ -1,7 +1,7 @@
 // What holds of the definitions themselves. Each law is the contract of a function that does nothing.
 
 ghost use Rattle.std.specs.Prelude.{◌↔◌, ℕ};
-ghost use Rattle.rising.specs.Rising.{In, sorted};
+ghost use Rattle.sorted_sets.specs.Rising.{In, sorted};
 ghost use Rattle.rdf_term.specs.{declared.triple.Triple.Triple, Order.triple_cmp};
 ghost use Rattle.entity_model.specs.{declared.id.EntityId.EntityId, declared.mapping.MappingVersion.MappingVersion};
 ghost use Rattle.entity_model.specs.declared.lexeme.Lexeme.{Lexeme};

@@ -5,9 +5,9 @@ use Rattle.std.specs.FinMap.{IsAntisymmetric}
 use Rattle.std.specs.List.{flat_map, list_any}
 use Rattle.std.specs.Ordering.{eq_by_cmp}
 use Rattle.std.proofs.lemmas.List.Folds.{list_any-append}
-use Rattle.rising.specs.Rising.{has, sorted}
-use Rattle.rising.proofs.Finding.{list_any-sorted}
-use Rattle.rising.proofs.Rising.{sorted_same}
+use Rattle.sorted_sets.specs.Rising.{has, sorted}
+use Rattle.sorted_sets.proofs.Finding.{list_any-sorted}
+use Rattle.sorted_sets.proofs.Rising.{sorted_same}
 
 module _ {A B : Type 0} (f : A → List B) where
   pub list_any-flat_map : (p : B → Bool) (xs : List A) → list_any p (flat_map f xs) ≡ list_any (λ x. list_any p (f x)) xs

@@ -1,7 +1,7 @@
 -- The triples of a page as the store keeps them.
 use Rattle.std.specs.Prelude.{List, [], ◌∷◌}
 use Rattle.std.specs.List.{flat_map}
-use Rattle.rising.specs.Rising.{sorted}
+use Rattle.sorted_sets.specs.Rising.{sorted}
 use Rattle.rdf_term.specs.declared.term.Term.TheVariants.{Iri}
 use Rattle.rdf_term.specs.declared.triple.Triple.{Triple}
 use Rattle.rdf_term.specs.Order.{triple_cmp}

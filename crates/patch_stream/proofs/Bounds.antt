@@ -5,8 +5,8 @@ use Rattle.std.specs.List.{cons_option}
 use Rattle.std.proofs.Math.Nat.{mul-suc, suc-mul}
 use Rattle.std.proofs.lemmas.List.{length-map}
 use Rattle.std.proofs.lemmas.Nat.{column_fits}
-use Rattle.rising.specs.Rising.{In}
-use Rattle.rising.proofs.Pushes.{by_pushes}
+use Rattle.sorted_sets.specs.Rising.{In}
+use Rattle.sorted_sets.proofs.Pushes.{by_pushes}
 use Rattle.triple_store.proofs.Stocked.{length-sorted}
 use Rattle.delivery.specs.declared.Delivery.{Delivery}
 use Rattle.delivery.specs.declared.Delivery.TheVariants.{Event as Told, Watermark, Ask, Mapping, Match}

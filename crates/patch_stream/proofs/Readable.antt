@@ -2,8 +2,8 @@
 use Rattle.std.proofs.Common.{◌≡◌, refl, sym, ◌∙◌, ℕ, ◌+◌, ◌<◌, ◌≤◌, ◌^◌, ◌==◌, Bool, true, false, not, ◌&&◌, cond, is_some, List, [], ◌∷◌, ◌++◌, length, filter, Some, inl, inr, arith, true≢false}
 use Rattle.std.proofs.lemmas.Bool.Decides.{nat_tests}
 use Rattle.std.specs.List.{AllByRecursion}
-use Rattle.rising.specs.Rising.{Each, In, difference, has}
-use Rattle.rising.proofs.Filtering.{IsRising-filter, has-difference}
+use Rattle.sorted_sets.specs.Rising.{Each, In, difference, has}
+use Rattle.sorted_sets.proofs.Filtering.{IsRising-filter, has-difference}
 use Rattle.rdf_term.specs.declared.triple.Triple.{Triple}
 use Rattle.rdf_term.specs.Fit.{HasFitAndShortTerms}
 use Rattle.rdf_term.specs.Order.{triple_cmp, triple_cmp-total}

@@ -2,7 +2,7 @@
 use Rattle.std.proofs.Common.{◌≡◌, refl, sym, subst, ◌∙◌, ap, ℕ, zero, suc, ◌+◌, ◌-◌, ◌≤◌, ◌==◌, ⊎_elim, Bool, true, false, cond, is_some, List, [], ◌∷◌, length, filter, Some, arith}
 use Rattle.std.proofs.lemmas.Bool.Decides.{nat_tests}
 use Rattle.std.specs.List.{AllByRecursion}
-use Rattle.rising.specs.Rising.{Each, In, IsRising, difference}
+use Rattle.sorted_sets.specs.Rising.{Each, In, IsRising, difference}
 use Rattle.rdf_term.specs.declared.triple.Triple.{Triple}
 use Rattle.rdf_term.specs.Order.{triple_cmp}
 use Rattle.replica.specs.declared.record.PatchRecord.{PatchRecord}

@@ -2,10 +2,10 @@
 use Rattle.std.proofs.Common.{◌≡◌, ◌↔◌, refl, sym, ◌∙◌, ap, subst, ℕ, zero, suc, ◌+◌, Bool, true, false, not, ◌&&◌, ◌||◌, cond, nat_lt, List, [], ◌∷◌, ◌++◌, length, Ok, Err, append_assoc, arith, true≢false}
 use Rattle.std.proofs.lemmas.Bool.Decides.{Decides-ltb}
 use Rattle.wq_io.specs.Streams.{after_known}
-use Rattle.rising.specs.Rising.{IsRising, difference, has}
-use Rattle.rising.proofs.Bools.{clash}
-use Rattle.rising.proofs.Filtering.{has-difference}
-use Rattle.rising.proofs.Rising.{has_itself, same_rising}
+use Rattle.sorted_sets.specs.Rising.{IsRising, difference, has}
+use Rattle.sorted_sets.proofs.Bools.{clash}
+use Rattle.sorted_sets.proofs.Filtering.{has-difference}
+use Rattle.sorted_sets.proofs.Rising.{has_itself, same_rising}
 use Rattle.rdf_term.specs.declared.triple.Triple.{Triple}
 use Rattle.rdf_term.specs.Order.{triple_cmp, triple_cmp-total}
 use Rattle.rdf_term.proofs.Texts.{triple_cmp-IsAntisymmetric}

@@ -1,7 +1,7 @@
 -- The steps of a replay, and the records of what they change of the stored triples.
 use Rattle.std.specs.Prelude.{◌≡◌, ℕ, ◌+◌, ◌≤◌, Bool, true, false, ◌||◌, cond, nat_lt, List, [], ◌∷◌, ◌++◌, Option, Result, MatchResult, filter, flat_map, length}
 use Rattle.wq_io.specs.Streams.{after_known}
-use Rattle.rising.specs.Rising.{difference}
+use Rattle.sorted_sets.specs.Rising.{difference}
 use Rattle.rdf_term.specs.declared.triple.Triple.{Triple}
 use Rattle.rdf_term.specs.Order.{triple_cmp}
 use Rattle.entity_model.specs.declared.id.EntityId.{EntityId}

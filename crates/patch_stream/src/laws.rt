@@ -1,7 +1,7 @@
 // What holds of the definitions themselves. Each law is the contract of a function that does nothing.
 
 ghost use Rattle.std.specs.Prelude.{◌≡◌, ◌↔◌, ◌+◌, ◌*◌, ◌<◌, ◌≤◌, ◌^◌, ℕ, false, is_some, length, List, [], Option};
-ghost use Rattle.rising.specs.Rising.{Each, In, IsRising};
+ghost use Rattle.sorted_sets.specs.Rising.{Each, In, IsRising};
 ghost use Rattle.rdf_term.specs.{declared.triple.Triple.Triple, Order.triple_cmp};
 ghost use Rattle.delivery.specs.declared.Delivery.{Delivery};
 ghost use Rattle.replay_model.specs.{Acceptance.version_in_force, Play.Replies, Play.play_to_end, Union.union};

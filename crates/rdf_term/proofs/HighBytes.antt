@@ -1,7 +1,7 @@
 -- The bytes of a character beyond ASCII are all beyond ASCII.
 use Rattle.std.proofs.Common.{ℕ, ◌≤◌, arith, ⊎_elim}
 use Rattle.std.proofs.lemmas.Bool.{cases_lt, lt-ltb, le-ltb}
-use Rattle.rising.specs.Rising.{Each}
+use Rattle.sorted_sets.specs.Rising.{Each}
 use lib.Utf8.{encode}
 
 pub encode_high : (c : ℕ) → 128 ≤ c → Each (λ b. 128 ≤ b) (encode c)

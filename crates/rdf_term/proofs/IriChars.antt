@@ -3,7 +3,7 @@ use Rattle.std.proofs.Common.{◌≡◌, ℕ, ◌==◌, ◌<◌, ◌≤◌, true
 use Rattle.std.proofs.lemmas.Bool.{and_parts, cases_lt, lt-ltb, ne_eqb}
 use Rattle.std.proofs.lemmas.List.Concat.{flat_map-append}
 use Rattle.std.proofs.lemmas.Str.{encode_ascii}
-use Rattle.rising.specs.Rising.{Each}
+use Rattle.sorted_sets.specs.Rising.{Each}
 use Rattle.rdf_term.specs.declared.term.Term.TheVariants.{Iri}
 use Rattle.rdf_term.specs.Grammar.{iri_of, is_iri, is_iri_char, percent_encoded, percent_encoded_byte}
 use Rattle.rdf_term.proofs.HighBytes.{encode_high}

@@ -1,7 +1,7 @@
 // What holds of the order itself. The law is the contract of a function that does nothing.
 
 ghost use Rattle.std.specs.Prelude.{◌↔◌, List};
-ghost use Rattle.rising.specs.Rising.{In, sorted};
+ghost use Rattle.sorted_sets.specs.Rising.{In, sorted};
 ghost use Rattle.rdf_term.specs.{declared.triple.Triple.Triple, Order.triple_cmp};
 
 /// The sorted list of triples has exactly the triples of the list.

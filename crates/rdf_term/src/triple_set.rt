@@ -1,7 +1,7 @@
 // A set of triples.
 
 ghost use Rattle.std.specs.Prelude.{◌≡◌, IsOkAnd};
-ghost use Rattle.rising.specs.Rising.{IsRising, has, sorted};
+ghost use Rattle.sorted_sets.specs.Rising.{IsRising, has, sorted};
 
 use crate::triple::Triple;
 use base::{List, OutOfMemory};
@@ -15,7 +15,7 @@ pub struct TripleSet {
 
 impl Model for TripleSet {
     ghost use Rattle.std.specs.Prelude.{List};
-    ghost use Rattle.rising.specs.Rising.{IsRising};
+    ghost use Rattle.sorted_sets.specs.Rising.{IsRising};
     ghost use Rattle.rdf_term.specs.{declared.triple.Triple.Triple, Order.triple_cmp};
 
     ghost Value = { List Triple };

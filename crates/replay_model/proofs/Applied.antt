@@ -9,10 +9,10 @@ use Rattle.delivery.specs.declared.Delivery.{Delivery}
 use Rattle.reorder_buffer.specs.declared.taken.Taken.TheVariants.{New, Repeat, Late}
 use Rattle.reorder_buffer.specs.Watermarks.{greater, reached, is_due}
 use Rattle.reorder_buffer.specs.Buffered.{first_due}
-use Rattle.rising.specs.Rising.{has, IsRising}
-use Rattle.rising.proofs.Bools.{equal, or_swap, and_none, and_left, and_right}
-use Rattle.rising.proofs.Rising.{has-insert_key, IsRising-sorted}
-use Rattle.rising.proofs.FirstPassing.{has-taken_out}
+use Rattle.sorted_sets.specs.Rising.{has, IsRising}
+use Rattle.sorted_sets.proofs.Bools.{equal, or_swap, and_none, and_left, and_right}
+use Rattle.sorted_sets.proofs.Rising.{has-insert_key, IsRising-sorted}
+use Rattle.sorted_sets.proofs.FirstPassing.{has-taken_out}
 use Rattle.replay_model.specs.Acceptance.{mark, accepted}
 use Rattle.replay_model.specs.Explained.{is_applied}
 use Rattle.replay_model.specs.Play.{Replies}

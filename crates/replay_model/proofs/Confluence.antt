@@ -7,9 +7,9 @@ use Rattle.entity_model.specs.Event.{event_cmp, event_cmp_total, event_cmp_same}
 use Rattle.delivery.specs.declared.Delivery.{Delivery}
 use Rattle.entity_model.specs.declared.mapping.MappingVersion.{MappingVersion}
 use Rattle.reorder_buffer.specs.Watermarks.{is_due}
-use Rattle.rising.specs.Rising.{has}
-use Rattle.rising.proofs.Rising.{sorted_same}
-use Rattle.rising.proofs.Filtering.{filter_all}
+use Rattle.sorted_sets.specs.Rising.{has}
+use Rattle.sorted_sets.proofs.Rising.{sorted_same}
+use Rattle.sorted_sets.proofs.Filtering.{filter_all}
 use Rattle.replay_model.specs.Acceptance.{mark, accepted, due, version_in_force}
 use Rattle.replay_model.specs.Play.{Replies, play_to_end}
 use Rattle.replay_model.specs.Union.{Meaning, union, owners}

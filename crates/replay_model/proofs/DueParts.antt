@@ -5,7 +5,7 @@ use Rattle.entity_model.specs.Event.{event_cmp_total, event_cmp_same}
 use Rattle.delivery.specs.declared.Delivery.{Delivery}
 use Rattle.delivery.specs.declared.Delivery.TheVariants.{Watermark}
 use Rattle.reorder_buffer.specs.Watermarks.{is_due}
-use Rattle.rising.proofs.Filtering.{sorted_parts, filter_stronger}
+use Rattle.sorted_sets.proofs.Filtering.{sorted_parts, filter_stronger}
 use Rattle.replay_model.specs.Acceptance.{mark, accepted, is_accepted, due}
 use Rattle.replay_model.specs.Fate.{in_order}
 use Rattle.replay_model.specs.Play.{newly_due}

@@ -14,10 +14,10 @@ use Rattle.delivery.specs.declared.Delivery.TheVariants.{Event as Told, Watermar
 use Rattle.entity_model.specs.declared.mapping.MappingVersion.{MappingVersion}
 use Rattle.reorder_buffer.specs.Watermarks.{is_due}
 use Rattle.reorder_buffer.specs.Buffered.{answer_to, first_due}
-use Rattle.rising.specs.Rising.{has, IsRising}
-use Rattle.rising.proofs.Bools.{clash, equal, or_none, or_true}
-use Rattle.rising.proofs.Rising.{has-append}
-use Rattle.rising.proofs.FirstPassing.{has-found, IsRising-remove_key}
+use Rattle.sorted_sets.specs.Rising.{has, IsRising}
+use Rattle.sorted_sets.proofs.Bools.{clash, equal, or_none, or_true}
+use Rattle.sorted_sets.proofs.Rising.{has-append}
+use Rattle.sorted_sets.proofs.FirstPassing.{has-found, IsRising-remove_key}
 use Rattle.replay_model.specs.Records.{Bytes}
 use Rattle.replay_model.specs.Play.{Replies, Fetch, fetches, fetches_to_end}
 use Rattle.replay_model.specs.Replies.{GivesDocument, Judgement, judged, reply_there, source_replies, failed_events}

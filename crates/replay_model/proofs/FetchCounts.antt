@@ -5,7 +5,7 @@ use Rattle.delivery.specs.declared.Delivery.{Delivery}
 use Rattle.delivery.specs.declared.Delivery.TheVariants.{Event as Told, Watermark, Ask, Mapping, Match}
 use Rattle.reorder_buffer.specs.Watermarks.{is_due}
 use Rattle.reorder_buffer.specs.Buffered.{first_due}
-use Rattle.rising.proofs.FirstPassing.{filter-first, filter-none}
+use Rattle.sorted_sets.proofs.FirstPassing.{filter-first, filter-none}
 use Rattle.replay_model.specs.Play.{Replies, fetches_of_all, play, fetches, fetches_to_end, risen_by}
 use Rattle.replay_model.specs.ReplayState.{ReplayState, after_end, after_applying, after_next, following, fetches_for, fetches_next, fetches_due, fetches_delivered}
 use Rattle.replay_model.proofs.Arrivals.{fetches-push}

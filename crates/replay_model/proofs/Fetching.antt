@@ -13,8 +13,8 @@ use Rattle.side_output.specs.declared.entry.Cause.TheVariants.{Missing, Failed, 
 use Rattle.reorder_buffer.specs.declared.taken.Taken.{Taken}
 use Rattle.reorder_buffer.specs.declared.taken.Taken.TheVariants.{New, Repeat, Late}
 use Rattle.side_output.specs.declared.entry.Entry.{Entry}
-use Rattle.rising.specs.Rising.{has}
-use Rattle.rising.proofs.Bools.{or_none}
+use Rattle.sorted_sets.specs.Rising.{has}
+use Rattle.sorted_sets.proofs.Bools.{or_none}
 use Rattle.replay_model.specs.Records.{Bytes, record_of}
 use Rattle.replay_model.specs.Play.{Replies, Played, held_after_fetch, entry_of, entries_after}
 use Rattle.entity_state.specs.Standing.{reconciled_after}

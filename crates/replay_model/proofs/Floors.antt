@@ -8,10 +8,10 @@ use Rattle.entity_model.specs.Event.{event_cmp, event_cmp_total, event_cmp_same}
 use Rattle.delivery.specs.declared.Delivery.{Delivery}
 use Rattle.reorder_buffer.specs.Watermarks.{greater, reached, floor, is_below}
 use Rattle.reorder_buffer.specs.Buffered.{unforgotten}
-use Rattle.rising.specs.Rising.{has}
-use Rattle.rising.proofs.Bools.{clash, and_right}
-use Rattle.rising.proofs.Rising.{has-sorted, sorted-push}
-use Rattle.rising.proofs.Filtering.{has-filter, sorted-filter, filter_stronger}
+use Rattle.sorted_sets.specs.Rising.{has}
+use Rattle.sorted_sets.proofs.Bools.{clash, and_right}
+use Rattle.sorted_sets.proofs.Rising.{has-sorted, sorted-push}
+use Rattle.sorted_sets.proofs.Filtering.{has-filter, sorted-filter, filter_stronger}
 use Rattle.replay_model.specs.Acceptance.{mark, events, is_repeat}
 use Rattle.replay_model.specs.Fate.{in_order}
 

@@ -11,9 +11,9 @@ use Rattle.reorder_buffer.specs.declared.taken.Taken.{Taken}
 use Rattle.reorder_buffer.specs.declared.taken.Taken.TheVariants.{New, Repeat, Late}
 use Rattle.reorder_buffer.specs.Watermarks.{greater, reached, is_due, floor}
 use Rattle.reorder_buffer.specs.Buffered.{after_answer, first_due, unforgotten}
-use Rattle.rising.proofs.Rising.{sorted-push, sorted-push_again}
-use Rattle.rising.proofs.Filtering.{sorted-filter, filter_swap, filter_stronger}
-use Rattle.rising.proofs.FirstPassing.{filter-none, filter-all_others, filter-first, filter-others}
+use Rattle.sorted_sets.proofs.Rising.{sorted-push, sorted-push_again}
+use Rattle.sorted_sets.proofs.Filtering.{sorted-filter, filter_swap, filter_stronger}
+use Rattle.sorted_sets.proofs.FirstPassing.{filter-none, filter-all_others, filter-first, filter-others}
 use Rattle.replay_model.specs.Acceptance.{mark, events, is_repeat, is_accepted, accepted}
 use Rattle.replay_model.specs.Fate.{in_order}
 use Rattle.replay_model.specs.Play.{Replies, Played, apply_all, newly_due, play}

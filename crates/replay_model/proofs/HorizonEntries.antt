@@ -7,7 +7,7 @@ use Rattle.side_output.specs.declared.entry.Entry.TheVariants.{Late}
 use Rattle.delivery.specs.declared.Delivery.{Delivery}
 use Rattle.delivery.specs.declared.Delivery.TheVariants.{Event as Told, Watermark, Ask, Mapping, Match}
 use Rattle.reorder_buffer.specs.Watermarks.{is_due}
-use Rattle.rising.proofs.Pushes.{by_pushes}
+use Rattle.sorted_sets.proofs.Pushes.{by_pushes}
 use Rattle.replay_model.specs.Acceptance.{mark, is_late}
 use Rattle.replay_model.specs.Fate.{in_order}
 use Rattle.replay_model.specs.Records.{record_of}

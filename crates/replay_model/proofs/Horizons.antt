@@ -6,8 +6,8 @@ use Rattle.delivery.specs.declared.Delivery.{Delivery}
 use Rattle.reorder_buffer.specs.declared.taken.Taken.TheVariants.{New, Repeat, Late}
 use Rattle.reorder_buffer.specs.Watermarks.{reached, is_due, floor}
 use Rattle.reorder_buffer.specs.Buffered.{answer_to}
-use Rattle.rising.specs.Rising.{has}
-use Rattle.rising.proofs.Bools.{and_none}
+use Rattle.sorted_sets.specs.Rising.{has}
+use Rattle.sorted_sets.proofs.Bools.{and_none}
 use Rattle.replay_model.specs.Acceptance.{mark, events, events_passing, is_repeat, is_late, is_accepted, accepted}
 use Rattle.replay_model.specs.Fate.{in_order}
 use Rattle.replay_model.specs.Play.{Replies, played}

@@ -16,12 +16,12 @@ use Rattle.entity_state.specs.State.{state_after, after_kind, unknown}
 use Rattle.delivery.specs.declared.Delivery.{Delivery}
 use Rattle.delivery.specs.declared.Delivery.TheVariants.{Event as Told, Watermark, Ask, Mapping, Match}
 use Rattle.reorder_buffer.specs.Watermarks.{reached, is_due}
-use Rattle.rising.specs.Rising.{has}
-use Rattle.rising.proofs.Bools.{clash, equal, or_none, or_true, or_false_left, or_false_right}
-use Rattle.rising.proofs.Pushes.{by_pushes}
-use Rattle.rising.proofs.Rising.{has-append, sorted_same}
-use Rattle.rising.proofs.Filtering.{has-filter}
-use Rattle.rising.proofs.Finding.{list_any-sorted, list_any-filter}
+use Rattle.sorted_sets.specs.Rising.{has}
+use Rattle.sorted_sets.proofs.Bools.{clash, equal, or_none, or_true, or_false_left, or_false_right}
+use Rattle.sorted_sets.proofs.Pushes.{by_pushes}
+use Rattle.sorted_sets.proofs.Rising.{has-append, sorted_same}
+use Rattle.sorted_sets.proofs.Filtering.{has-filter}
+use Rattle.sorted_sets.proofs.Finding.{list_any-sorted, list_any-filter}
 use Rattle.replay_model.specs.Acceptance.{mark, events, is_repeat, is_late, is_accepted, accepted, late, due, known}
 use Rattle.replay_model.specs.Fate.{is_of, events_of, in_order, fate}
 use Rattle.entity_state.specs.Standing.{is_reconciliation}

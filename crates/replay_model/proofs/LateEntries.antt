@@ -10,7 +10,7 @@ use Rattle.side_output.specs.declared.entry.Entry.{Entry}
 use Rattle.side_output.specs.declared.entry.Entry.TheVariants.{Late}
 use Rattle.delivery.specs.declared.Delivery.{Delivery}
 use Rattle.delivery.specs.declared.Delivery.TheVariants.{Event as Told, Watermark, Ask, Mapping, Match}
-use Rattle.rising.proofs.Pushes.{by_pushes}
+use Rattle.sorted_sets.proofs.Pushes.{by_pushes}
 use Rattle.replay_model.specs.Acceptance.{is_late, late}
 use Rattle.replay_model.specs.Records.{Bytes, record_of}
 use Rattle.replay_model.specs.Play.{Replies, Played, entry_of, entries_after, apply, apply_all, newly_due, happens, play, played}

@@ -7,9 +7,9 @@ use Rattle.entity_state.specs.declared.record.Record.{Record}
 use Rattle.entity_state.specs.Record.{blank}
 use Rattle.side_output.specs.Entry.{is_before}
 use Rattle.delivery.specs.declared.Delivery.{Delivery}
-use Rattle.rising.proofs.Bools.{or_assoc, or_none}
-use Rattle.rising.proofs.Rising.{turned}
-use Rattle.rising.proofs.Finding.{list_any-sorted, list_any-filter}
+use Rattle.sorted_sets.proofs.Bools.{or_assoc, or_none}
+use Rattle.sorted_sets.proofs.Rising.{turned}
+use Rattle.sorted_sets.proofs.Finding.{list_any-sorted, list_any-filter}
 use Rattle.replay_model.specs.Acceptance.{due}
 use Rattle.replay_model.specs.Fate.{is_of, events_of, in_order}
 use Rattle.replay_model.specs.Records.{Bytes, record_of}

@@ -9,10 +9,10 @@ use Rattle.entity_model.specs.declared.id.EntityId.{EntityId}
 use Rattle.entity_model.specs.EntityId.{entity_cmp, entity_cmp_total, entity_cmp_same}
 use Rattle.entity_state.specs.declared.record.Record.{Record}
 use Rattle.entity_state.specs.Record.{blank}
-use Rattle.rising.specs.Rising.{has, difference, IsRising}
-use Rattle.rising.proofs.Keys.{and_first, and_second, less}
-use Rattle.rising.proofs.Rising.{has-append, has-sorted, IsRising-sorted}
-use Rattle.rising.proofs.Filtering.{has-difference}
+use Rattle.sorted_sets.specs.Rising.{has, difference, IsRising}
+use Rattle.sorted_sets.proofs.Keys.{and_first, and_second, less}
+use Rattle.sorted_sets.proofs.Rising.{has-append, has-sorted, IsRising-sorted}
+use Rattle.sorted_sets.proofs.Filtering.{has-difference}
 use Rattle.replay_model.specs.Records.{Bytes, Records, record_of}
 use Rattle.replay_model.specs.Union.{Meaning, triples_held, triples_at, union, owners}
 

@@ -5,7 +5,7 @@ use Rattle.std.proofs.lemmas.List.Sums.{fold-append}
 use Rattle.entity_model.specs.declared.event.Event.{Event}
 use Rattle.delivery.specs.declared.Delivery.{Delivery}
 use Rattle.delivery.specs.declared.Delivery.TheVariants.{Event as Told, Watermark, Ask, Mapping, Match}
-use Rattle.rising.proofs.Pushes.{by_pushes}
+use Rattle.sorted_sets.proofs.Pushes.{by_pushes}
 use Rattle.replay_model.specs.Acceptance.{due}
 use Rattle.replay_model.specs.Fate.{in_order}
 use Rattle.replay_model.specs.Records.{Records}

@@ -5,10 +5,10 @@ use Rattle.std.specs.FinMap as map
 use Rattle.std.specs.Ordering.{eq_by_cmp}
 use Rattle.std.specs.Set.{remove_key}
 use Rattle.std.proofs.lemmas.List.Sums.{fold_push}
-use Rattle.rising.specs.Rising.{IsRising, has}
-use Rattle.rising.proofs.FirstPassing.{IsRising-remove_key}
-use Rattle.rising.proofs.Pushes.{by_pushes}
-use Rattle.rising.proofs.Rising.{IsRising-insert_key, has-insert_key, same_rising}
+use Rattle.sorted_sets.specs.Rising.{IsRising, has}
+use Rattle.sorted_sets.proofs.FirstPassing.{IsRising-remove_key}
+use Rattle.sorted_sets.proofs.Pushes.{by_pushes}
+use Rattle.sorted_sets.proofs.Rising.{IsRising-insert_key, has-insert_key, same_rising}
 use Rattle.entity_model.specs.declared.id.EntityId.{EntityId}
 use Rattle.entity_model.specs.declared.event.Event.{Event}
 use Rattle.delivery.specs.declared.Delivery.{Delivery}

@@ -9,8 +9,8 @@ use Rattle.entity_state.specs.declared.record.Record.{Record}
 use Rattle.entity_state.specs.State.{state_after}
 use Rattle.entity_state.specs.Record.{blank}
 use Rattle.delivery.specs.declared.Delivery.{Delivery}
-use Rattle.rising.proofs.Bools.{equal}
-use Rattle.rising.proofs.Filtering.{sorted-filter}
+use Rattle.sorted_sets.proofs.Bools.{equal}
+use Rattle.sorted_sets.proofs.Filtering.{sorted-filter}
 use Rattle.replay_model.specs.Acceptance.{due}
 use Rattle.replay_model.specs.Fate.{is_of, events_of, in_order, fate}
 use Rattle.replay_model.specs.Records.{Bytes, Records, record_of}

@@ -19,9 +19,9 @@ use Rattle.side_output.specs.declared.entry.Entry.{Entry}
 use Rattle.side_output.specs.declared.entry.Entry.TheVariants.{Late, Revision}
 use Rattle.delivery.specs.declared.Delivery.{Delivery}
 use Rattle.delivery.specs.declared.Delivery.TheVariants.{Event as Told, Watermark, Ask, Mapping, Match}
-use Rattle.rising.proofs.Bools.{clash, or_true, and_right, and_left, and_none, and_all}
-use Rattle.rising.proofs.Finding.{list_any_weaker, list_any_never}
-use Rattle.rising.proofs.Pushes.{by_pushes}
+use Rattle.sorted_sets.proofs.Bools.{clash, or_true, and_right, and_left, and_none, and_all}
+use Rattle.sorted_sets.proofs.Finding.{list_any_weaker, list_any_never}
+use Rattle.sorted_sets.proofs.Pushes.{by_pushes}
 use Rattle.replay_model.specs.Acceptance.{is_late}
 use Rattle.replay_model.specs.Fate.{is_of}
 use Rattle.replay_model.specs.Records.{Bytes, record_of, settles_at, is_settled}

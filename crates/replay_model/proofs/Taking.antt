@@ -8,10 +8,10 @@ use Rattle.delivery.specs.declared.Delivery.TheVariants.{Event as Told, Watermar
 use Rattle.reorder_buffer.specs.declared.taken.Taken.TheVariants.{New, Repeat, Late}
 use Rattle.reorder_buffer.specs.Watermarks.{greater, reached, floor, is_below}
 use Rattle.reorder_buffer.specs.Buffered.{Buffered, nothing_taken_within, answer_to, unforgotten, with_event, after_answer, after_taking, after_raising, after_closing, after_dropping}
-use Rattle.rising.specs.Rising.{has}
-use Rattle.rising.proofs.Bools.{and_none}
-use Rattle.rising.proofs.Rising.{has-insert_key, sorted-push_again}
-use Rattle.rising.proofs.Filtering.{has-filter}
+use Rattle.sorted_sets.specs.Rising.{has}
+use Rattle.sorted_sets.proofs.Bools.{and_none}
+use Rattle.sorted_sets.proofs.Rising.{has-insert_key, sorted-push_again}
+use Rattle.sorted_sets.proofs.Filtering.{has-filter}
 use Rattle.replay_model.specs.Acceptance.{mark, events, is_repeat, is_late}
 use Rattle.replay_model.specs.Fate.{in_order}
 use Rattle.replay_model.specs.ReplayState.{HasTakenIn}

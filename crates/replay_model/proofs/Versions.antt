@@ -8,12 +8,12 @@ use Rattle.std.specs.Cmp.{eq_by_cmp_equiv}
 use Rattle.std.specs.Ordering.{eq_by_cmp}
 use Rattle.std.specs.Set.{remove_key}
 use Rattle.std.proofs.lemmas.List.Sums.{sum_by-cons}
-use Rattle.rising.specs.Rising.{Each, IsRising, has, sorted}
-use Rattle.rising.proofs.Bools.{equal}
-use Rattle.rising.proofs.Filtering.{IsRising-filter, has-filter}
-use Rattle.rising.proofs.FirstPassing.{IsRising-remove_key}
-use Rattle.rising.proofs.Keys.{and_first, and_second, less, rising_keys}
-use Rattle.rising.proofs.Rising.{IsRising-insert_key, has-above, has-insert_key, same_rising}
+use Rattle.sorted_sets.specs.Rising.{Each, IsRising, has, sorted}
+use Rattle.sorted_sets.proofs.Bools.{equal}
+use Rattle.sorted_sets.proofs.Filtering.{IsRising-filter, has-filter}
+use Rattle.sorted_sets.proofs.FirstPassing.{IsRising-remove_key}
+use Rattle.sorted_sets.proofs.Keys.{and_first, and_second, less, rising_keys}
+use Rattle.sorted_sets.proofs.Rising.{IsRising-insert_key, has-above, has-insert_key, same_rising}
 use Rattle.entity_model.specs.declared.id.EntityId.{EntityId}
 use Rattle.entity_model.specs.declared.mapping.MappingVersion.{MappingVersion}
 use Rattle.entity_model.specs.declared.mapping.MappingVersion.TheVariants.{One, Two}

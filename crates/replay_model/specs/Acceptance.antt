@@ -2,7 +2,7 @@
 -- mark than a horizon; without a horizon, all are. And which version of the mapping is in force after the deliveries.
 use Rattle.std.specs.Prelude.{ℕ, ℤ, Bool, not, ◌&&◌, cond, List, [], ◌∷◌, ◌++◌, Option, None, Some, fold, filter, filter_map, option_and_then, unwrap_or}
 use Rattle.std.specs.List.{last_or}
-use Rattle.rising.specs.Rising.{has}
+use Rattle.sorted_sets.specs.Rising.{has}
 use Rattle.entity_model.specs.declared.event.Event.{Event}
 use Rattle.entity_model.specs.Event.{event_cmp}
 use Rattle.delivery.specs.declared.Delivery.{Delivery}

@@ -1,6 +1,6 @@
 -- When the state of a replay that fetches from a source is that of a play, and what a play over told contents replies.
 use Rattle.std.specs.Prelude.{◌≡◌, ℕ, ◌+◌, length, List, Bool, true, not, ◌&&◌, ◌⊎◌, Option, Some, Result, Err}
-use Rattle.rising.specs.Rising.{has, IsRising}
+use Rattle.sorted_sets.specs.Rising.{has, IsRising}
 use Rattle.entity_model.specs.declared.event.Event.{Event}
 use Rattle.entity_model.specs.Event.{event_cmp}
 use Rattle.side_output.specs.declared.entry.Cause.{Cause}

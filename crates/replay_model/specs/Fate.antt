@@ -1,7 +1,7 @@
 -- The state that a list of events gives an entity.
 use Rattle.std.specs.Prelude.{Bool, List, fold, filter}
 use Rattle.std.specs.Ordering.{eq_by_cmp}
-use Rattle.rising.specs.Rising.{sorted}
+use Rattle.sorted_sets.specs.Rising.{sorted}
 use Rattle.entity_model.specs.declared.id.EntityId.{EntityId}
 use Rattle.entity_model.specs.declared.event.Event.{Event}
 use Rattle.entity_model.specs.EntityId.{entity_cmp}

@@ -1,6 +1,6 @@
 -- A world as a value: the buffer and what was played, and what each delivery makes of them.
 use Rattle.std.specs.Prelude.{◌≡◌, ℤ, ℕ, zero, suc, true, false, not, ◌&&◌, List, [], ◌∷◌, ◌++◌, Option, None, Some, filter}
-use Rattle.rising.specs.Rising.{has}
+use Rattle.sorted_sets.specs.Rising.{has}
 use Rattle.entity_model.specs.declared.event.Event.{Event}
 use Rattle.entity_model.specs.Event.{event_cmp}
 use Rattle.side_output.specs.declared.entry.Entry.{Entry}

@@ -1,6 +1,6 @@
 -- What a source of revisions with known contents replies.
 use Rattle.std.specs.Prelude.{◌≡◌, ℕ, true, cond, List, Option, None, Some, Result, Ok, Err, filter_map}
-use Rattle.rising.specs.Rising.{has}
+use Rattle.sorted_sets.specs.Rising.{has}
 use Rattle.entity_model.specs.declared.id.EntityId.{EntityId}
 use Rattle.entity_model.specs.declared.event.Event.{Event}
 use Rattle.entity_model.specs.declared.unfit.Unfit.{Unfit}

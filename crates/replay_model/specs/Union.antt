@@ -2,7 +2,7 @@
 use Rattle.std.specs.Prelude.{ℕ, List, [], Option, None, Some, flat_map, count_by}
 use Rattle.std.specs.FinMap as map
 use Rattle.std.specs.declared.cmp.Ordering.{Ordering}
-use Rattle.rising.specs.Rising.{sorted, has}
+use Rattle.sorted_sets.specs.Rising.{sorted, has}
 use Rattle.entity_model.specs.declared.id.EntityId.{EntityId}
 use Rattle.entity_state.specs.declared.record.Held.{Held}
 use Rattle.entity_state.specs.declared.record.Record.{Record}

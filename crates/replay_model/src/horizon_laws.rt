@@ -1,7 +1,7 @@
 // The laws of the horizon: what it changes, and what a buffer with one answers.
 
 ghost use Rattle.std.specs.Prelude.{◌≡◌, ℕ, ℤ, Bool, not, ◌&&◌, cond, List, [], ◌∷◌, ◌++◌, Option, None, filter, is_none};
-ghost use Rattle.rising.specs.Rising.{has};
+ghost use Rattle.sorted_sets.specs.Rising.{has};
 ghost use Rattle.entity_model.specs.{declared.event.Event.Event, Event.event_cmp};
 ghost use Rattle.delivery.specs.declared.Delivery.{Delivery};
 ghost use Rattle.reorder_buffer.specs.declared.taken.Taken.TheVariants.{New, Repeat, Late};

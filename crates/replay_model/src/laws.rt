@@ -2,7 +2,7 @@
 
 ghost use Rattle.std.specs.Prelude.{◌≡◌, ℕ, Bool, true, false, not, List, ◌∷◌, ◌++◌, Option, None};
 ghost use Rattle.std.specs.List.{list_any};
-ghost use Rattle.rising.specs.Rising.{has};
+ghost use Rattle.sorted_sets.specs.Rising.{has};
 ghost use Rattle.entity_model.specs.{declared.event.Event.Event, declared.id.EntityId.EntityId, Event.event_cmp};
 ghost use Rattle.entity_state.specs.{State.is_kept, Standing.is_reconciliation};
 ghost use Rattle.side_output.specs.declared.entry.Entry.{Entry};

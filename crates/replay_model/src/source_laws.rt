@@ -1,7 +1,7 @@
 // The laws of a replay over a source of revisions.
 
 ghost use Rattle.std.specs.Prelude.{◌≡◌, ℕ, ◌+◌, cond, length, ℤ, Bool, true, Result, [], ◌∷◌, ◌++◌, List, Option, Some, None};
-ghost use Rattle.rising.specs.Rising.{Each};
+ghost use Rattle.sorted_sets.specs.Rising.{Each};
 ghost use Rattle.entity_model.specs.{declared.event.Event.Event, declared.id.EntityId.EntityId};
 ghost use Rattle.entity_model.specs.declared.mapping.MappingVersion.{MappingVersion};
 ghost use Rattle.side_output.specs.declared.entry.Cause.{Cause};

@@ -2,7 +2,7 @@
 
 ghost use Rattle.std.specs.Prelude.{◌≡◌, ◌+◌, ℕ, List, Option, true, false, nat_lt};
 ghost use Rattle.std.specs.{Cmp.IsTotalOrder, declared.cmp.Ordering.Ordering, FinMap.insert};
-ghost use Rattle.rising.specs.Rising.{has, difference, IsRising};
+ghost use Rattle.sorted_sets.specs.Rising.{has, difference, IsRising};
 ghost use Rattle.delivery.specs.declared.Delivery.{Delivery};
 ghost use Rattle.entity_model.specs.{declared.event.Event.Event, declared.id.EntityId.EntityId};
 ghost use Rattle.entity_model.specs.{declared.mapping.MappingVersion.MappingVersion, Event.event_cmp};

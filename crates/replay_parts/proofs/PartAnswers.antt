@@ -2,7 +2,7 @@
 use Rattle.std.proofs.Common.{◌≡◌, ℕ, Bool, true, false, cond, List, [], ◌∷◌, ◌++◌, Option, flat_map, refl, sym, ◌∙◌, ap, append-nil}
 use Rattle.std.proofs.lemmas.List.Concat.{flat_map-append}
 use Rattle.rdf_term.specs.declared.triple.Triple.{Triple}
-use Rattle.rising.proofs.Pushes.{by_pushes}
+use Rattle.sorted_sets.proofs.Pushes.{by_pushes}
 use Rattle.entity_model.specs.declared.id.EntityId.{EntityId}
 use Rattle.delivery.specs.declared.Delivery.{Delivery}
 use Rattle.delivery.specs.declared.Delivery.TheVariants.{Event as Told, Watermark, Ask, Mapping, Match}

@@ -1,7 +1,7 @@
 -- Of what passes a test the parts have as many entries, and make as many fetches, as the whole.
 use Rattle.std.proofs.Common.{◌≡◌, ℕ, ◌+◌, Bool, cond, ◌&&◌, List, [], ◌∷◌, Option, filter, sum_by, count_by, refl, sym, ◌∙◌, ap}
 use Rattle.std.proofs.lemmas.List.Sums.{sum_by-cons}
-use Rattle.rising.specs.Rising.{Each}
+use Rattle.sorted_sets.specs.Rising.{Each}
 use Rattle.delivery.specs.declared.Delivery.{Delivery}
 use Rattle.entity_model.specs.declared.id.EntityId.{EntityId}
 use Rattle.side_output.specs.declared.entry.Entry.{Entry}

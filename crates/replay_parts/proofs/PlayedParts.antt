@@ -15,8 +15,8 @@ use Rattle.side_output.specs.declared.entry.Cause.{Cause}
 use Rattle.side_output.specs.declared.entry.Entry.{Entry}
 use Rattle.side_output.specs.declared.entry.Entry.TheVariants.{Late}
 use Rattle.side_output.specs.Entry.{entity_of}
-use Rattle.rising.proofs.Bools.{clash, equal}
-use Rattle.rising.proofs.Pushes.{by_pushes}
+use Rattle.sorted_sets.proofs.Bools.{clash, equal}
+use Rattle.sorted_sets.proofs.Pushes.{by_pushes}
 use Rattle.replay_model.specs.Acceptance.{is_late}
 use Rattle.replay_model.specs.Entries.{is_open_in, is_open_by}
 use Rattle.replay_model.specs.Play.{Replies, Played, record_after, entry_of, entries_after, records_after, apply, apply_all, newly_due, happens, play, play_to_end, played}

@@ -10,9 +10,9 @@ use Rattle.delivery.specs.declared.Delivery.TheVariants.{Event as Told, Watermar
 use Rattle.entity_model.specs.declared.mapping.MappingVersion.TheVariants.{One}
 use Rattle.reorder_buffer.specs.Watermarks.{greater, reached, is_due, floor, is_below}
 use Rattle.reorder_buffer.specs.Buffered.{unforgotten}
-use Rattle.rising.specs.Rising.{has}
-use Rattle.rising.proofs.Pushes.{by_pushes}
-use Rattle.rising.proofs.Filtering.{has-filter, filter_swap, sorted-filter}
+use Rattle.sorted_sets.specs.Rising.{has}
+use Rattle.sorted_sets.proofs.Pushes.{by_pushes}
+use Rattle.sorted_sets.proofs.Filtering.{has-filter, filter_swap, sorted-filter}
 use Rattle.replay_model.specs.Acceptance.{event_of, watermark_of, mapping_of, events, mark, version_in_force, events_passing, is_repeat, is_late, is_accepted, accepted, due}
 use Rattle.replay_model.specs.Fate.{in_order}
 use Rattle.replay_model.specs.Play.{newly_due}

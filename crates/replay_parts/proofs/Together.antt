@@ -8,8 +8,8 @@ use Rattle.rdf_term.specs.Order.{triple_cmp, triple_cmp-total}
 use Rattle.rdf_term.specs.Pattern.{agrees, rows}
 use Rattle.graph_query.specs.Bindings.{bindings}
 use Rattle.rdf_term.proofs.Texts.{triple_cmp-IsAntisymmetric}
-use Rattle.rising.specs.Rising.{Each, has, sorted}
-use Rattle.rising.proofs.Filtering.{sorted-filter}
+use Rattle.sorted_sets.specs.Rising.{Each, has, sorted}
+use Rattle.sorted_sets.proofs.Filtering.{sorted-filter}
 use Rattle.delivery.specs.declared.Delivery.{Delivery}
 use Rattle.entity_model.specs.declared.mapping.MappingVersion.{MappingVersion}
 use Rattle.replay_model.specs.Acceptance.{Arrival, arrivals, version_in_force}

@@ -8,9 +8,9 @@ use Rattle.delivery.specs.declared.Delivery.{Delivery}
 use Rattle.delivery.specs.declared.Delivery.TheVariants.{Event as Told, Watermark, Ask, Mapping, Match}
 use Rattle.entity_model.specs.declared.mapping.MappingVersion.{MappingVersion}
 use Rattle.entity_state.specs.State.{state_after}
-use Rattle.rising.proofs.Bools.{clash}
-use Rattle.rising.proofs.Filtering.{filter_swap, sorted-filter}
-use Rattle.rising.proofs.Pushes.{by_pushes}
+use Rattle.sorted_sets.proofs.Bools.{clash}
+use Rattle.sorted_sets.proofs.Filtering.{filter_swap, sorted-filter}
+use Rattle.sorted_sets.proofs.Pushes.{by_pushes}
 use Rattle.reorder_buffer.specs.Watermarks.{greater, reached, is_due}
 use Rattle.replay_model.specs.Acceptance.{mark, accepted, version_in_force}
 use Rattle.replay_model.specs.Fate.{in_order}

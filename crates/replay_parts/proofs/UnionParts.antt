@@ -11,10 +11,10 @@ use Rattle.std.proofs.lemmas.List.Sums.{sum_by-cons}
 use Rattle.entity_model.specs.declared.id.EntityId.{EntityId}
 use Rattle.entity_model.specs.EntityId.{entity_cmp, entity_cmp_total, entity_cmp_same}
 use Rattle.entity_state.specs.declared.record.Record.{Record}
-use Rattle.rising.specs.Rising.{has, IsRising}
-use Rattle.rising.proofs.Bools.{clash, and_all, and_none, and_right, or_assoc, or_swap}
-use Rattle.rising.proofs.Finding.{list_any-filter, list_any_agree, list_any_never, list_any_weaker}
-use Rattle.rising.proofs.Rising.{has-append, has-sorted, IsRising-sorted, same_rising}
+use Rattle.sorted_sets.specs.Rising.{has, IsRising}
+use Rattle.sorted_sets.proofs.Bools.{clash, and_all, and_none, and_right, or_assoc, or_swap}
+use Rattle.sorted_sets.proofs.Finding.{list_any-filter, list_any_agree, list_any_never, list_any_weaker}
+use Rattle.sorted_sets.proofs.Rising.{has-append, has-sorted, IsRising-sorted, same_rising}
 use Rattle.replay_model.specs.Records.{Bytes, Records}
 use Rattle.replay_model.specs.Union.{Meaning, triples_at, union, owners}
 use Rattle.replay_model.proofs.Owners.{union-rises}

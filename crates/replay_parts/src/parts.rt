@@ -2,7 +2,7 @@
 
 ghost use Rattle.std.specs.Prelude.{◌≡◌, ◌↔◌, ℕ, Bool, true, false, not, ◌||◌, List, [], ◌∷◌, ◌++◌, Option, cond, None, flat_map, sum_by, count_by, ◌<◌};
 ghost use Rattle.std.specs.{Cmp.IsTotalOrder, FinMap.get, FinMap.IsAntisymmetric, List.list_any, declared.cmp.Ordering.Ordering};
-ghost use Rattle.rising.specs.Rising.{has};
+ghost use Rattle.sorted_sets.specs.Rising.{has};
 ghost use Rattle.rdf_term.specs.{declared.pattern.Pattern.Pattern, declared.triple.Triple.Triple, Order.triple_cmp};
 ghost use Rattle.delivery.specs.declared.Delivery.{Delivery};
 ghost use Rattle.entity_model.specs.{declared.id.EntityId.EntityId, declared.mapping.MappingVersion.MappingVersion};

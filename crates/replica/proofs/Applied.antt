@@ -4,10 +4,10 @@ use Rattle.std.specs.List.{AllByRecursion, flat_map}
 use Rattle.std.specs.FinMap as map
 use Rattle.std.specs.Ordering.{eq_by_cmp}
 use Rattle.std.proofs.lemmas.Bool.{and_parts}
-use Rattle.rising.specs.Rising.{difference, has, sorted}
-use Rattle.rising.proofs.Bools.{or_true}
-use Rattle.rising.proofs.Filtering.{has-difference, has-filter}
-use Rattle.rising.proofs.Rising.{IsRising-sorted, has_itself, has-append, has-sorted, same_rising}
+use Rattle.sorted_sets.specs.Rising.{difference, has, sorted}
+use Rattle.sorted_sets.proofs.Bools.{or_true}
+use Rattle.sorted_sets.proofs.Filtering.{has-difference, has-filter}
+use Rattle.sorted_sets.proofs.Rising.{IsRising-sorted, has_itself, has-append, has-sorted, same_rising}
 use Rattle.rdf_term.specs.declared.term.Term.{Term}
 use Rattle.rdf_term.specs.declared.triple.Triple.{Triple}
 use Rattle.rdf_term.specs.Fit.{HasFitAndShortTerms}

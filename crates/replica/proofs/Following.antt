@@ -3,7 +3,7 @@ use Rattle.std.proofs.Common.{◌≡◌, ℕ, zero, suc, ◌+◌, ◌^◌, ◌<�
 use Rattle.std.specs.Ordering.{nat_cmp}
 use Rattle.std.specs.BTreeMap.{is_at}
 use Rattle.std.proofs.lemmas.Bool.Decides.{nat_tests}
-use Rattle.rising.proofs.Bools.{or_false_left, or_false_right}
+use Rattle.sorted_sets.proofs.Bools.{or_false_left, or_false_right}
 use Rattle.replica.specs.declared.record.PatchRecord.{PatchRecord}
 use Rattle.replica.specs.Record.{IsSound}
 use Rattle.replica.specs.Replica.{Follows, HasNoRoomForNext, IsWaiting, ReplicaState, after, is_known, numbered, patched_if, terms_with, waiting_at}

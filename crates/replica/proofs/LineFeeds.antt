@@ -9,7 +9,7 @@ use Rattle.std.proofs.lemmas.Fmt.{digits_decimal}
 use Rattle.std.proofs.lemmas.Grind.{flat_map-append}
 use Rattle.std.proofs.lemmas.Str.Parse.{digit_at}
 use Rattle.digits.proofs.Decimals.{decimal_numerals}
-use Rattle.rising.specs.Rising.{Each}
+use Rattle.sorted_sets.specs.Rising.{Each}
 use Rattle.wq_io.specs.Lines.{IsOneLine, ended_lines, line_feed, lines}
 use Rattle.wq_io.proofs.LineLists.{lines-line, one_line-append}
 use Rattle.rdf_term.specs.declared.tag.TagState.{TagState}

@@ -3,9 +3,9 @@ use Rattle.std.proofs.Common.{◌≡◌, ℕ, zero, suc, ◌+◌, ◌-◌, ◌==
 use Rattle.std.specs.List.{AllByRecursion}
 use Rattle.std.proofs.lemmas.Bool.{cases_lt}
 use Rattle.std.proofs.lemmas.Bool.Decides.{nat_tests}
-use Rattle.rising.specs.Rising.{IsRising, difference, has, sorted}
-use Rattle.rising.proofs.Filtering.{has-difference}
-use Rattle.rising.proofs.Rising.{IsRising-sorted, has-append, has-sorted, same_rising}
+use Rattle.sorted_sets.specs.Rising.{IsRising, difference, has, sorted}
+use Rattle.sorted_sets.proofs.Filtering.{has-difference}
+use Rattle.sorted_sets.proofs.Rising.{IsRising-sorted, has-append, has-sorted, same_rising}
 use Rattle.rdf_term.specs.declared.triple.Triple.{Triple}
 use Rattle.rdf_term.specs.Order.{triple_cmp, triple_cmp-total}
 use Rattle.rdf_term.proofs.Texts.{triple_cmp-IsAntisymmetric}

@@ -2,9 +2,9 @@
 use Rattle.std.proofs.Common.{◌≡◌, ℕ, ◌<◌, ◌≤◌, ◌==◌, Bool, true, false, cond, nat_lt, length, map, is_lt, arith, true≢false, append-nil, length-append, List, [], ◌∷◌, ◌++◌, flat_map, Option, None, Some, IfSome, MatchOption, refl, sym, ◌∙◌, ap, subst, append_assoc}
 use Rattle.std.specs.List.{AllByRecursion}
 use Rattle.std.proofs.lemmas.Bool.Decides.{nat_tests}
-use Rattle.rising.specs.Rising.{IsRising, has}
-use Rattle.rising.proofs.Bools.{and_none, or_true}
-use Rattle.rising.proofs.Rising.{has-append, has_itself}
+use Rattle.sorted_sets.specs.Rising.{IsRising, has}
+use Rattle.sorted_sets.proofs.Bools.{and_none, or_true}
+use Rattle.sorted_sets.proofs.Rising.{has-append, has_itself}
 use Rattle.rdf_term.specs.declared.triple.Triple.{Triple}
 use Rattle.rdf_term.specs.Order.{triple_cmp, triple_cmp-total}
 use Rattle.replica.specs.Head.{head_line}

@@ -6,9 +6,9 @@ use Rattle.std.proofs.lemmas.Bool.{and_parts}
 use Rattle.std.proofs.lemmas.Bool.Decides.{nat_tests}
 use Rattle.std.proofs.lemmas.List.{map-append}
 use Rattle.std.proofs.lemmas.Grind.{flat_map-append}
-use Rattle.rising.specs.Rising.{IsRising, has}
-use Rattle.rising.proofs.Bools.{equal}
-use Rattle.rising.proofs.Rising.{Above-weaken, has-append}
+use Rattle.sorted_sets.specs.Rising.{IsRising, has}
+use Rattle.sorted_sets.proofs.Bools.{equal}
+use Rattle.sorted_sets.proofs.Rising.{Above-weaken, has-append}
 use Rattle.base.specs.declared.memory.OutOfMemory.{OutOfMemory}
 use Rattle.rdf_term.specs.declared.triple.Triple.{Triple}
 use Rattle.rdf_term.specs.Append.{Appends}

@@ -1,7 +1,7 @@
 -- What the records of a producer are, and what the law of a replica says.
 use Rattle.std.specs.Prelude.{◌≡◌, ℕ, ◌+◌, ◌-◌, ◌<◌, ◌≤◌, ◌^◌, length, false, List, [], ◌∷◌, ◌++◌, Option, None, Some, IsSome, is_some, flat_map}
 use Rattle.std.specs.List.{AllByRecursion}
-use Rattle.rising.specs.Rising.{IsRising, difference}
+use Rattle.sorted_sets.specs.Rising.{IsRising, difference}
 use Rattle.rdf_term.specs.declared.triple.Triple.{Triple}
 use Rattle.rdf_term.specs.Order.{triple_cmp}
 use Rattle.wq_io.specs.Lines.{lines}

@@ -2,7 +2,7 @@
 
 ghost use Rattle.std.specs.Prelude.{◌≡◌, ◌<◌, ◌≤◌, filter, is_some, Err, IfOk, IfSome, MatchOption, OnErr, OnOk, Some};
 ghost use Rattle.std.specs.FinMap as map;
-ghost use Rattle.rising.specs.Rising.{IsRising, has};
+ghost use Rattle.sorted_sets.specs.Rising.{IsRising, has};
 ghost use Rattle.rdf_term.specs.Order.{triple_cmp};
 ghost use Rattle.triple_store.specs.StoreState.{counts_in, limit_of};
 ghost use Rattle.replica.specs.{declared.record.PatchRecord.PatchRecord as TheRecord, Record.IsSound};

@@ -1,7 +1,7 @@
 // Records, read line by line.
 
 ghost use Rattle.std.specs.Prelude.{◌≡◌, ◌↔◌, ◌++◌, ◌∷◌, [], IfErr, IfOk, IfSome, IsErr, IsTrue, MatchOption, None, Some, false, true, ◌⊎◌};
-ghost use Rattle.rising.specs.Rising.{IsRising, has};
+ghost use Rattle.sorted_sets.specs.Rising.{IsRising, has};
 ghost use Rattle.rdf_term.specs.{declared.triple.Triple.Triple as TheTriple, Order.triple_cmp};
 ghost use Rattle.replica.specs.declared.reader.PatchFault.TheVariants.{Order as OutOfOrder, OutOfMemory as PatchOutOfMemory};
 ghost use Rattle.replica.specs.Reader.{Grows, HasCause, IsPart, IsUnfinished, TakesLine, given, may_come_next, is_adding, is_next, all_read, left, lines_read, opened, patch_read, with_triple};

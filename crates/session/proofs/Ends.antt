@@ -1,6 +1,6 @@
 -- What a world at rest and at the end shows.
 use Rattle.std.proofs.Common.{refl, sym, subst, ◌∙◌, ap, inl, inr, ◌≡◌, ℕ, ◌+◌, ◌-◌, ◌^◌, ◌<◌, ◌≤◌, length, arith, Bool, true, false, not, List, [], ◌∷◌, ◌++◌, append-nil, Option, None, Some, IfSome, Result, Err}
-use Rattle.rising.specs.Rising.{Each}
+use Rattle.sorted_sets.specs.Rising.{Each}
 use Rattle.wq_io.specs.Streams.{IsAtEnd, Rose}
 use Rattle.entity_model.specs.declared.event.Event.{Event}
 use Rattle.entity_state.specs.State.{is_kept}
@@ -44,7 +44,7 @@ use Rattle.term_pool.specs.declared.fault.PoolFault.{PoolFault as StoreFault}
 use Rattle.term_pool.specs.declared.fault.PoolFault.TheVariants.{Full as NoRoom, OutOfMemory as PoolOutOfMemory}
 use Rattle.session.specs.Taking.{HoldsDocuments, judgement, replies_there}
 use Rattle.session.specs.Delivering.{HasTakenAll, HasTaken, HasAnswered, AtEnd, IsHeldUp, IsLeft, Leads}
-use Rattle.words.specs.Options.{closes, max_bytes_of}
+use Rattle.arguments.specs.Options.{closes, max_bytes_of}
 use Rattle.session.proofs.FromNothing.{ended_first, led_first}
 use Rattle.session.proofs.Needed.{all_met, due-none}
 use Rattle.session.proofs.Reports.{all_reported, steps-none}

@@ -3,10 +3,10 @@ use Rattle.std.proofs.Common.{◌≡◌, ℕ, ◌+◌, ℤ, Bool, true, false, c
 use Rattle.std.specs.BTreeSet.{insert_key}
 use Rattle.std.specs.Prelude.{find}
 use Rattle.std.specs.List.{list_any}
-use Rattle.rising.specs.Rising.{has, IsRising}
-use Rattle.rising.proofs.Rising.{IsRising-insert_key}
-use Rattle.rising.proofs.Bools.{or_false}
-use Rattle.rising.proofs.Finding.{list_any-insert_key}
+use Rattle.sorted_sets.specs.Rising.{has, IsRising}
+use Rattle.sorted_sets.proofs.Rising.{IsRising-insert_key}
+use Rattle.sorted_sets.proofs.Bools.{or_false}
+use Rattle.sorted_sets.proofs.Finding.{list_any-insert_key}
 use Rattle.delivery.specs.declared.Delivery.{Delivery}
 use Rattle.delivery.specs.declared.Delivery.TheVariants.{Event as Told, Watermark, Mapping}
 use Rattle.entity_model.specs.declared.event.Event.{Event}

@@ -1,6 +1,6 @@
 -- What follows of a snapshot that is loaded, and of one that isn't.
 use Rattle.std.proofs.Common.{◌≡◌, sym, subst, ◌∙◌, ap, ℕ, List, Bool, true, false, Option, Some, IfSome}
-use Rattle.rising.specs.Rising.{has}
+use Rattle.sorted_sets.specs.Rising.{has}
 use Rattle.entity_model.specs.declared.event.Event.{Event}
 use Rattle.entity_model.specs.declared.id.EntityId.{EntityId}
 use Rattle.entity_model.specs.Event.{event_cmp}
@@ -13,7 +13,7 @@ use Rattle.checkpoint.specs.Loading.{HoldsDocuments as AreDocuments, IsResting}
 use Rattle.checkpoint.specs.Saved.{AreWithin, saved_of, world_of}
 use Rattle.splitting.specs.Filling.{IsReadyFor}
 use Rattle.session.specs.Remapping.{HoldsWithin, mapped_in}
-use Rattle.words.specs.Options.{Choices, max_terms_of}
+use Rattle.arguments.specs.Options.{Choices, max_terms_of}
 use Rattle.session.specs.Resuming.{AllowsHorizon, HasOtherHorizon, IsSnapshotOf}
 use Rattle.session.specs.Taking.{IsStanding}
 

@@ -4,8 +4,8 @@ use Rattle.std.specs.Ordering.{eq_by_cmp}
 use Rattle.std.specs.Set.{remove_key}
 use Rattle.std.proofs.lemmas.Cmp.{tied_itself}
 use Rattle.std.proofs.lemmas.List.{append_cancel_left}
-use Rattle.rising.specs.Rising.{IsRising}
-use Rattle.rising.proofs.FirstPassing.{filter-first, filter-none}
+use Rattle.sorted_sets.specs.Rising.{IsRising}
+use Rattle.sorted_sets.proofs.FirstPassing.{filter-first, filter-none}
 use Rattle.rdf_term.specs.declared.triple.Triple.{Triple}
 use Rattle.rdf_term.specs.Order.{triple_cmp}
 use Rattle.delivery.specs.declared.Delivery.{Delivery}

@@ -2,9 +2,9 @@
 use Rattle.std.proofs.Common.{◌≡◌, subst, ℕ, Some, IfSome}
 use Rattle.following.specs.Following.{FollowMoment}
 use Rattle.following.specs.Reading.{TakesLinesByNeed}
-use Rattle.words.specs.Options.{FollowChoices, follow_max_bytes_of}
-use Rattle.words.specs.declared.plan.Plan.{Plan}
-use Rattle.words.specs.declared.plan.Plan.TheVariants.{Drill, Follow}
+use Rattle.arguments.specs.Options.{FollowChoices, follow_max_bytes_of}
+use Rattle.arguments.specs.declared.plan.Plan.{Plan}
+use Rattle.arguments.specs.declared.plan.Plan.TheVariants.{Drill, Follow}
 use Rattle.session.specs.declared.status.Status.{Status}
 use Rattle.session.specs.declared.stop.Stop.{Stop}
 use Rattle.session.specs.Plans.{FollowEnding, FollowStopped}

@@ -24,7 +24,7 @@ use Rattle.session.specs.declared.report.Report.{Report}
 use Rattle.session.specs.declared.report.Report.TheVariants.{Answers, Changes}
 use Rattle.session.specs.Taking.{judgement, replies_there}
 use Rattle.session.specs.Delivering.{HasTakenAll, PrintsClosing}
-use Rattle.words.specs.Options.{closes}
+use Rattle.arguments.specs.Options.{closes}
 use Rattle.session.proofs.Ends.{broken_off, none_failed, none_named_first, prints_asked}
 
 -- what the output has where questions are answered

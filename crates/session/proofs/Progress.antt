@@ -17,7 +17,7 @@ use Rattle.replay_model.specs.Play.{Replies}
 use Rattle.replay_model.specs.Records.{Bytes, Records}
 use Rattle.replay_model.specs.Replies.{HoldsDocument}
 use Rattle.replay_model.specs.ReplayState.{ReplayState, nothing_delivered_within}
-use Rattle.rising.proofs.Bools.{clash}
+use Rattle.sorted_sets.proofs.Bools.{clash}
 use Rattle.reorder_buffer.specs.Buffered.{first_due}
 use Rattle.replay_model.specs.Transcript.{asks, matches}
 use Rattle.world.specs.Meaning.{meaning}
@@ -47,7 +47,7 @@ use Rattle.session.specs.Report.{HasReported}
 use Rattle.session.specs.Stop.{stop_of_fault, stop_of_halt}
 use Rattle.session.specs.Taking.{IsStanding, IsWithin, judgement}
 use Rattle.session.specs.Delivering.{HasTaken, BreaksOffBy, HasAnswered, HasNumberLeft, TellsBy, reported_before, AnswersInPart, AtRest, CutsOff, IsUntaken, RemapsInPart, RemapsPages, TakesDelivery, TakesInPart, turn}
-use Rattle.words.specs.Options.{max_bytes_of}
+use Rattle.arguments.specs.Options.{max_bytes_of}
 use Rattle.session.proofs.Along.{asks-push, matches-push}
 use Rattle.session.proofs.Explaining.{explained_first}
 use Rattle.session.proofs.Needed.{due-none}

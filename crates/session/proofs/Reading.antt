@@ -4,7 +4,7 @@ use Rattle.std.proofs.lemmas.Bool.{le-leb}
 use Rattle.std.proofs.lemmas.Grind.{flat_map-append}
 use Rattle.std.proofs.Math.Seq.{drop-append_seam}
 use Rattle.std.specs.Option.{option_map}
-use Rattle.rising.specs.Rising.{Each}
+use Rattle.sorted_sets.specs.Rising.{Each}
 use Rattle.wq_io.specs.Streams.{IsAtEnd, LastRead, before_known}
 use Rattle.wq_io.specs.Lines.{GoesOn, IsLineLong, IsNeeded, IsOneLine, IsSound, IsTooLong, IsUndecided, ReadsAsNeeded, Reading, StopsInLine, TakesBytes, before_lines, ended_lines, fresh, input_length, line_feed, lines, input_lines, longest_line, longest_read, room, taken, unread, whole_lines}
 use Rattle.wq_io.proofs.LineLists.{whole_lines-ended}

@@ -3,7 +3,7 @@ use Rattle.std.proofs.Common.{◌≡◌, refl, sym, subst, ◌∙◌, ap, ℕ, �
 use Rattle.std.proofs.lemmas.List.Concat.{flat_map-append}
 use Rattle.std.proofs.lemmas.List.Elements.{filter-append}
 use Rattle.wq_io.specs.Streams.{after_known}
-use Rattle.rising.proofs.FirstPassing.{filter-first, filter-none}
+use Rattle.sorted_sets.proofs.FirstPassing.{filter-first, filter-none}
 use Rattle.rdf_term.specs.Order.{triple_cmp}
 use Rattle.delivery.specs.declared.Delivery.{Delivery}
 use Rattle.delivery.specs.declared.Delivery.TheVariants.{Watermark, Mapping}

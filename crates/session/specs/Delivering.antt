@@ -29,7 +29,7 @@ use Rattle.term_pool.specs.declared.fault.PoolFault.TheVariants.{Full, OutOfMemo
 use Rattle.session.specs.Remapping.{HaveRoomBefore, needed_anew, needed_by_due, IsLeftStale, KeepsVersion, Mapped, mapped_by, remapped_some}
 use Rattle.session.specs.Report.{HasReported}
 use Rattle.session.specs.Stop.{stop_of_halt, stop_of_unwritten, stop_of_load}
-use Rattle.words.specs.Options.{closes, max_bytes_of, Choices, max_terms_of}
+use Rattle.arguments.specs.Options.{closes, max_bytes_of, Choices, max_terms_of}
 use Rattle.session.specs.Reading.{AreDeliveries}
 use Rattle.session.specs.Taking.{HoldsDocuments, IsFull, judgement, IsEventOrMark, IsWithin}
 use Rattle.checkpoint.specs.declared.fault.LoadFault.{LoadFault}

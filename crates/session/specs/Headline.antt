@@ -1,7 +1,7 @@
 -- What a run leaves: the states, what is held, the side output and what was printed.
 use Rattle.std.specs.Prelude.{◌≡◌, ◌⊎◌, ℕ, ◌-◌, ◌^◌, ◌+◌, ◌<◌, Bool, true, false, not, List, [], ◌∷◌, ◌++◌, Option, None, Some, IfSome, MatchOption, length}
 use Rattle.std.specs.List.{list_any}
-use Rattle.rising.specs.Rising.{Each, has}
+use Rattle.sorted_sets.specs.Rising.{Each, has}
 use Rattle.wq_io.specs.Streams.{IsAtEnd, Rose}
 use Rattle.entity_model.specs.declared.id.EntityId.{EntityId}
 use Rattle.entity_model.specs.declared.event.Event.{Event}
@@ -28,7 +28,7 @@ use Rattle.text_output.specs.Printing.{IsCutShort, Output}
 use Rattle.replica.specs.Record.{record_text}
 use Rattle.patch_stream.specs.Stream.{Step, changes, is_change, record_of_step, steps_anew}
 use Rattle.checkpoint.specs.declared.numbers.Numbers.{Numbers}
-use Rattle.words.specs.Options.{closes, max_bytes_of}
+use Rattle.arguments.specs.Options.{closes, max_bytes_of}
 use Rattle.session.specs.declared.report.Report.TheVariants.{Answers, Changes}
 use Rattle.session.specs.declared.stop.Halt.TheVariants.{Unapplied, Unprinted}
 use Rattle.session.specs.declared.stop.Stop.{Stop}

@@ -18,7 +18,7 @@ use Rattle.session.specs.declared.ports.Ports.{Ports}
 use Rattle.session.specs.declared.report.Report.{Report}
 use Rattle.graph_routes.specs.declared.routes.Route.{Route}
 use Rattle.session.specs.Remapping.{Mapped, mapped_in}
-use Rattle.words.specs.Options.{Choices, folder_of, max_terms_of}
+use Rattle.arguments.specs.Options.{Choices, folder_of, max_terms_of}
 use Rattle.side_output.specs.declared.entry.Entry.{Entry}
 use Rattle.replay_model.specs.Play.{risen_by, Replies}
 use Rattle.replay_model.specs.Replies.{failed_events, missing_events}

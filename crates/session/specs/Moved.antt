@@ -8,7 +8,7 @@ use Rattle.replay_model.specs.ReplayState.{ReplayState}
 use Rattle.revisions.specs.Revisions.{Contents}
 use Rattle.session.specs.declared.report.Report.{Report}
 use Rattle.session.specs.Moment.{Environment, Run, behind, environment, run_of}
-use Rattle.words.specs.Options.{Choices}
+use Rattle.arguments.specs.Options.{Choices}
 use Rattle.world.specs.Codes.{world_code}
 use Rattle.world.specs.WorldState.{WorldState}
 

@@ -12,7 +12,7 @@ use Rattle.patch_stream.specs.Stream.{Step, steps_of_play, steps_to_end}
 use Rattle.world.specs.Meaning.{meaning}
 use Rattle.checkpoint.specs.declared.numbers.Numbers.{Numbers}
 use Rattle.snapshot.specs.File.{IsFitSaved}
-use Rattle.words.specs.Options.{closes}
+use Rattle.arguments.specs.Options.{closes}
 use Rattle.session.specs.Course.{closing_by, said_by}
 use Rattle.session.specs.Headline.{Ending, numbers_saved}
 use Rattle.session.specs.Moment.{Beginning, IsFirst, Moment, Run, horizon_at, start_of, saved_at}

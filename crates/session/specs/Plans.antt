@@ -4,10 +4,10 @@ use Rattle.std.specs.Prelude.{◌≡◌, ◌⊎◌, ℕ, false, List, None, Some
 use Rattle.revisions.specs.Revisions.{Contents}
 use Rattle.graph_routes.specs.declared.routes.Route.{Route}
 use Rattle.graph_routes.specs.Routes.{AreRoutesIn}
-use Rattle.words.specs.Options.{SplitChoices, closes, max_terms_of, FollowChoices, follow_max_bytes_of}
-use Rattle.words.specs.Plan.{plan_of}
-use Rattle.words.specs.declared.plan.Plan.{Plan}
-use Rattle.words.specs.declared.plan.Plan.TheVariants.{Replay, Drill, Patches, Follow, Split}
+use Rattle.arguments.specs.Options.{SplitChoices, closes, max_terms_of, FollowChoices, follow_max_bytes_of}
+use Rattle.arguments.specs.Plan.{plan_of}
+use Rattle.arguments.specs.declared.plan.Plan.{Plan}
+use Rattle.arguments.specs.declared.plan.Plan.TheVariants.{Replay, Drill, Patches, Follow, Split}
 use Rattle.session.specs.declared.report.Report.TheVariants.{Answers, Changes}
 use Rattle.session.specs.declared.status.Status.{Status}
 use Rattle.session.specs.Moment.{Run, run_of, Stage}

@@ -1,7 +1,7 @@
 -- The lines of an input as deliveries.
 use Rattle.std.specs.Prelude.{◌≡◌, ◌⊎◌, ℕ, ◌+◌, ◌-◌, ◌<◌, ◌≤◌, false, List, [], ◌∷◌, ◌++◌, length, min, drop, nat_le, if◌then◌else◌, Option, None, Some, IfSome, Result, Ok, Err}
 use Rattle.std.specs.Option.{option_map}
-use Rattle.rising.specs.Rising.{Each}
+use Rattle.sorted_sets.specs.Rising.{Each}
 use Rattle.wq_io.specs.Streams.{LastRead, before_known}
 use Rattle.wq_io.specs.Lines.{Reading, IsLineLong, IsOneLine, IsTooLong, IsUndecided, ended_lines, input_length, lines, input_lines, longest_line, longest_read, unread, whole_lines}
 use Rattle.delivery.specs.declared.Delivery.{Delivery}

@@ -13,7 +13,7 @@ use Rattle.world.specs.Roomed.{HasRoom, room_with}
 use Rattle.world.specs.WorldState.{WorldState, first_of, stale_by, with_version_of}
 use Rattle.term_pool.specs.declared.fault.PoolFault.{PoolFault as StoreFault}
 use Rattle.term_pool.specs.declared.fault.PoolFault.TheVariants.{Full, OutOfMemory}
-use Rattle.rising.specs.Rising.{Each}
+use Rattle.sorted_sets.specs.Rising.{Each}
 use Rattle.delivery.specs.declared.Delivery.{Delivery}
 use Rattle.delivery.specs.declared.Delivery.TheVariants.{Event as Told, Watermark, Ask, Mapping, Match}
 use Rattle.entity_model.specs.declared.event.Event.{Event}

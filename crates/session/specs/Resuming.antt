@@ -9,7 +9,7 @@ use Rattle.checkpoint.specs.declared.numbers.Numbers.{Numbers}
 use Rattle.checkpoint.specs.Causes.{HasCause}
 use Rattle.checkpoint.specs.Saved.{AreWithin, saved_of, world_of}
 use Rattle.following.specs.Input.{Input}
-use Rattle.words.specs.Options.{Choices, max_terms_of}
+use Rattle.arguments.specs.Options.{Choices, max_terms_of}
 use Rattle.session.specs.declared.stop.Stop.{Stop}
 use Rattle.session.specs.Headline.{ReplayEnding}
 use Rattle.session.specs.Moment.{Moment, Run, behind, stage_in, world_at_start}

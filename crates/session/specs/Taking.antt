@@ -4,7 +4,7 @@ use Rattle.entity_model.specs.declared.id.EntityId.{EntityId}
 use Rattle.entity_json.specs.Document.{unfit_of}
 use Rattle.entity_model.specs.declared.event.Event.{Event}
 use Rattle.entity_model.specs.Event.{event_cmp}
-use Rattle.rising.specs.Rising.{IsRising, has}
+use Rattle.sorted_sets.specs.Rising.{IsRising, has}
 use Rattle.delivery.specs.declared.Delivery.{Delivery}
 use Rattle.delivery.specs.declared.Delivery.TheVariants.{Event as Told, Watermark, Ask, Mapping, Match}
 use Rattle.reorder_buffer.specs.Buffered.{first_due}

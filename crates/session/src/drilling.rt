@@ -5,7 +5,7 @@ ghost use Rattle.replay_model.specs.ReplayState.{nothing_delivered};
 ghost use Rattle.text_output.specs.Printing.{output};
 ghost use Rattle.drill_replay.specs.Playing.{IsByFirst};
 ghost use Rattle.session.specs.{Moment.HasWrittenOn, Plans.DrillStopped, Plans.HasDrilled, Plans.IsDrillEnd, Remapping.HoldsWithin};
-ghost use Rattle.words.specs.Plan.{greatest_size};
+ghost use Rattle.arguments.specs.Plan.{greatest_size};
 
 use crate::drill_playing::play;
 use crate::remapping::begin_by_first;

@@ -8,11 +8,11 @@ ghost use Rattle.session.specs.{Moment.HaveGoneOn, Plans.FollowEnding, Remapping
 use crate::ports::Ports;
 use crate::status::Status;
 use crate::stop::Stop;
+use arguments::FollowOptions;
 use following::follow;
 use revisions::Revisions;
 use std::alloc::Global;
 use std::hash::RandomState;
-use words::FollowOptions;
 use world::World;
 use wq_io::{Sink, Source};
 

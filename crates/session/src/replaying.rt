@@ -7,7 +7,7 @@ ghost use Rattle.session.specs.{Course.closing_held, Moment.HasWrittenOn, Moment
 ghost use Rattle.session.specs.{Moment.moment, Moment.run_of, Moved.GoesOn, Moved.run_in, Remapping.HoldsWithin, Remapping.mapped_in};
 ghost use Rattle.session.specs.{Delivering.PrintsClosing, Moment.sections_of, Stop.MayLeavePart, Stop.stop_in, Stop.stop_of, Taking.IsStanding};
 ghost use Rattle.transcript.specs.Sections.{chosen};
-ghost use Rattle.words.specs.Options.{closes, max_terms_of};
+ghost use Rattle.arguments.specs.Options.{closes, max_terms_of};
 ghost use Rattle.world.specs.Meaning.{meaning};
 
 use crate::context::Context;
@@ -20,13 +20,13 @@ use crate::status::Status;
 use crate::stop::Stop;
 use crate::taking::take_lines;
 use crate::task::Task;
+use arguments::ReplayOptions;
 use checkpoint::save;
 use graph_routes::Routes;
 use revisions::Revisions;
 use std::hash::RandomState;
 use text_output::Unwritten;
 use transcript::{Sections, print_closing};
-use words::ReplayOptions;
 use world::World;
 use wq_io::{Sink, Source};
 

@@ -8,9 +8,9 @@ ghost use Rattle.session.specs.{Moment.Run, Moment.moment, Moment.stage, Remappi
 ghost use Rattle.session.specs.Plans.{IsNotUnderstood, IsRunOf, MaySave, limit_of_plan};
 ghost use Rattle.session.specs.Stop.{stop_of};
 ghost use Rattle.following.specs.Following.{follow_moment};
-ghost use Rattle.words.specs.{Options.FollowChoices, Plan.plan_of};
-ghost use Rattle.words.specs.declared.plan.Plan.{Plan as ThePlan};
-ghost use Rattle.words.specs.declared.plan.Plan.TheVariants.{Drill, Follow};
+ghost use Rattle.arguments.specs.{Options.FollowChoices, Plan.plan_of};
+ghost use Rattle.arguments.specs.declared.plan.Plan.{Plan as ThePlan};
+ghost use Rattle.arguments.specs.declared.plan.Plan.TheVariants.{Drill, Follow};
 
 use crate::drilling::drill;
 use crate::ports::Ports;
@@ -20,10 +20,10 @@ use crate::report::Report;
 use crate::split::split;
 use crate::status::Status;
 use crate::task::Task;
+use arguments::{Plan, read_plan};
 use revisions::Revisions;
 use std::alloc::Global;
 use std::hash::RandomState;
-use words::{Plan, read_plan};
 use world::World;
 use wq_io::{Sink, Source};
 

@@ -6,7 +6,7 @@ ghost use Rattle.graph_routes.specs.{declared.routes.Route.Route, Routes.AreRout
 ghost use Rattle.session.specs.{declared.report.Report.TheVariants.Answers, Moment.HaveGoneOn, Resuming.RunEnding};
 ghost use Rattle.session.specs.{Moment.moment, Moment.run_of, Remapping.HoldsWithin};
 ghost use Rattle.session.specs.Stop.{MayLeavePart, stop_of};
-ghost use Rattle.words.specs.Options.{closes, max_terms_of};
+ghost use Rattle.arguments.specs.Options.{closes, max_terms_of};
 
 use crate::ports::Ports;
 use crate::replaying::run_replay;
@@ -14,12 +14,12 @@ use crate::report::Report;
 use crate::resuming::prepare;
 use crate::status::Status;
 use crate::task::Task;
+use arguments::SplitOptions;
 use graph_routes::Routes;
 use rdf_term::OutOfMemory;
 use revisions::Revisions;
 use std::alloc::Global;
 use std::hash::RandomState;
-use words::SplitOptions;
 use world::World;
 use wq_io::{Sink, Source};
 

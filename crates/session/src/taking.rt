@@ -5,7 +5,7 @@ ghost use Rattle.replay_model.specs.Transcript.{matches};
 ghost use Rattle.event_line.specs.{declared.faults.LineCause.LineCause, Line.delivery_of};
 ghost use Rattle.session.specs.{Moment.HaveGoneOn, Headline.Stopped, Moment.moment, Moved.GoesOn, Moved.run_in, Reading.TakesByNeed};
 ghost use Rattle.session.specs.{Remapping.mapped_in, Delivering.HasTaken, Taking.IsStanding};
-ghost use Rattle.words.specs.Options.{max_bytes_of, max_terms_of};
+ghost use Rattle.arguments.specs.Options.{max_bytes_of, max_terms_of};
 
 use crate::context::{Context, Incoming};
 use crate::delivering::deliver;

@@ -1,8 +1,8 @@
 // What is asked of a replay.
 
 use crate::report::Report;
+use arguments::ReplayOptions;
 use std::alloc::Global;
-use words::ReplayOptions;
 
 // What is asked of a replay: where memory comes from, the options, and what is reported of the deliveries.
 #[derive(Clone, Copy)]

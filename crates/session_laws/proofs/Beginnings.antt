@@ -3,8 +3,8 @@ use Rattle.std.proofs.Common.{◌≡◌, refl, sym, subst, ◌∙◌, ap, inl, i
 use Rattle.std.specs.List.{last_or}
 use Rattle.std.specs.Option.{option_map}
 use Rattle.std.proofs.lemmas.List.Elements.{filter_map-append}
-use Rattle.rising.specs.Rising.{In, has}
-use Rattle.rising.proofs.Rising.{has-append}
+use Rattle.sorted_sets.specs.Rising.{In, has}
+use Rattle.sorted_sets.proofs.Rising.{has-append}
 use Rattle.wq_io.specs.Lines.{lines, input_lines}
 use Rattle.wq_io.specs.Streams.{before_known}
 use Rattle.delivery.specs.declared.Delivery.{Delivery}

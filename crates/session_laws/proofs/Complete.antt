@@ -4,7 +4,7 @@ use Rattle.std.proofs.lemmas.Bool.{le-leb, lt-leb}
 use Rattle.std.specs.List.{flat_map}
 use Rattle.std.specs.Option.{unwrap_or}
 use Rattle.std.specs.FinMap as map
-use Rattle.rising.specs.Rising.{Each, has, sorted}
+use Rattle.sorted_sets.specs.Rising.{Each, has, sorted}
 use Rattle.wq_io.specs.Streams.{Rose}
 use Rattle.wq_io.specs.Lines.{IsLineLong, IsOneLine, lines, longest_line, onto_first_line}
 use Rattle.wq_io.proofs.LineLists.{one_line-cons}
@@ -28,7 +28,7 @@ use Rattle.replay_model.specs.ReplayState.{ReplayState}
 use Rattle.replay_model.specs.Union.{triples_held}
 use Rattle.world.specs.Meaning.{meaning}
 use Rattle.world.proofs.Entries.{over_ids}
-use Rattle.words.specs.Options.{closes, max_bytes_of}
+use Rattle.arguments.specs.Options.{closes, max_bytes_of}
 use Rattle.session.specs.declared.status.Status.{Status}
 use Rattle.session.specs.declared.status.Status.TheVariants.{Ok as Ended, BadWords, BadLine, ReadFault, WriteFault, TooLong, StoreFull, OutOfMemory, BadSnapshot}
 use Rattle.session_laws.specs.Complete.{FindsDocument, IsStill, has_document, triples_in}

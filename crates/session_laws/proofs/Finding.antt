@@ -11,11 +11,11 @@ use Rattle.entity_state.specs.Record.{held_revision, wants}
 use Rattle.entity_state.specs.declared.record.Record.{Record}
 use Rattle.side_output.specs.declared.entry.Cause.{Cause}
 use Rattle.side_output.specs.declared.entry.Entry.TheVariants.{Late}
-use Rattle.rising.specs.Rising.{has}
-use Rattle.rising.proofs.Bools.{and_left, and_right, or_true}
-use Rattle.rising.proofs.Filtering.{has-filter}
-use Rattle.rising.proofs.Rising.{has-append, has-sorted, has_itself}
-use Rattle.rising.proofs.Pushes.{by_pushes, first_empty}
+use Rattle.sorted_sets.specs.Rising.{has}
+use Rattle.sorted_sets.proofs.Bools.{and_left, and_right, or_true}
+use Rattle.sorted_sets.proofs.Filtering.{has-filter}
+use Rattle.sorted_sets.proofs.Rising.{has-append, has-sorted, has_itself}
+use Rattle.sorted_sets.proofs.Pushes.{by_pushes, first_empty}
 use Rattle.reorder_buffer.specs.Watermarks.{is_due}
 use Rattle.replay_model.specs.Acceptance.{accepted, due, is_accepted, is_late, late, mark}
 use Rattle.replay_model.specs.Fate.{is_of}

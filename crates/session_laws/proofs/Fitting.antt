@@ -3,9 +3,9 @@
 use Rattle.std.proofs.Common.{◌≡◌, refl, sym, subst, ◌∙◌, ⊎_elim, ℕ, zero, suc, ◌<◌, ◌≤◌, List, [], ◌∷◌, ◌++◌, append-nil, Option, None, Some, arith}
 use Rattle.std.specs.Option.{option_to_list}
 use Rattle.std.specs.Ordering.{eq_by_cmp}
-use Rattle.rising.specs.Rising.{In}
-use Rattle.rising.proofs.Bools.{clash}
-use Rattle.rising.proofs.FirstPassing.{has-remove_key}
+use Rattle.sorted_sets.specs.Rising.{In}
+use Rattle.sorted_sets.proofs.Bools.{clash}
+use Rattle.sorted_sets.proofs.FirstPassing.{has-remove_key}
 use Rattle.delivery.specs.declared.Delivery.{Delivery}
 use Rattle.delivery.specs.declared.Delivery.TheVariants.{Mapping}
 use Rattle.entity_model.specs.declared.event.Event.{Event}
@@ -22,7 +22,7 @@ use Rattle.replay_model.specs.ReplayState.{following}
 use Rattle.replay_model.specs.Versions.{all_by}
 use Rattle.triple_store.specs.Room.{distinct}
 use Rattle.world.specs.WorldState.{with_version_of}
-use Rattle.words.specs.Options.{max_bytes_of}
+use Rattle.arguments.specs.Options.{max_bytes_of}
 use Rattle.session.specs.declared.stop.Stop.TheVariants.{StoreFull}
 use Rattle.session.specs.declared.stop.Halt.TheVariants.{Unapplied as NotApplied}
 use Rattle.term_pool.specs.declared.fault.PoolFault.TheVariants.{Full as NoRoom}

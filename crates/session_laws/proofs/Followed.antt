@@ -2,7 +2,7 @@
 use Rattle.std.proofs.Common.{◌≡◌, sym, subst, ◌∙◌, ap, ℕ, ◌+◌, ◌<◌, ◌≤◌, ◌^◌, ◌==◌, Bool, true, false, cond, List, [], ◌∷◌, length, flat_map, append-nil, Option, None, Some, arith}
 use Rattle.rdf_term.specs.declared.triple.Triple.{Triple}
 use Rattle.rdf_term.specs.Order.{triple_cmp}
-use Rattle.rising.specs.Rising.{Each, In}
+use Rattle.sorted_sets.specs.Rising.{Each, In}
 use Rattle.wq_io.specs.Streams.{after_known}
 use Rattle.wq_io.specs.Lines.{line_feed, lines, onto_first_line}
 use Rattle.delivery.specs.declared.Delivery.{Delivery}
@@ -23,7 +23,7 @@ use Rattle.patch_stream.proofs.Bounds.{few_enough, few_so_far, numbers_of}
 use Rattle.patch_stream.proofs.Chains.{chain_of_play, chain_to_end}
 use Rattle.patch_stream.proofs.Readable.{all_of_stream, can_be_read}
 use Rattle.patch_stream.proofs.Streamed.{after_stream, all_there}
-use Rattle.words.specs.Options.{FollowChoices, closes, follow_max_bytes_of, max_bytes_of}
+use Rattle.arguments.specs.Options.{FollowChoices, closes, follow_max_bytes_of, max_bytes_of}
 use Rattle.following.specs.Following.{Ending as Followed, FollowMoment, replica_text}
 use Rattle.following.specs.Reading.{AreRecords}
 use Rattle.following.proofs.Complete.{found_records}

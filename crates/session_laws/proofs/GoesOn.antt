@@ -12,7 +12,7 @@ use Rattle.world.specs.WorldState.{WorldState}
 use Rattle.checkpoint.specs.declared.numbers.Numbers.{Numbers}
 use Rattle.checkpoint.specs.Saved.{numbers_of as numbers_back, saved_of}
 use Rattle.following.specs.Input.{Input}
-use Rattle.words.specs.Options.{closes}
+use Rattle.arguments.specs.Options.{closes}
 use Rattle.session.specs.declared.report.Report.TheVariants.{Answers, Changes}
 use Rattle.session.specs.declared.status.Status.{Status}
 use Rattle.session.specs.declared.status.Status.TheVariants.{Ok as Ended}

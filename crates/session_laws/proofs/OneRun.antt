@@ -18,7 +18,7 @@ use Rattle.replay_model.specs.Versions.{all_by}
 use Rattle.world.specs.Meaning.{meaning}
 use Rattle.patch_stream.specs.Stream.{Step, changes, steps_anew, steps_due, steps_of_play, stream_text}
 use Rattle.checkpoint.specs.declared.numbers.Numbers.{Numbers}
-use Rattle.words.specs.Options.{closes}
+use Rattle.arguments.specs.Options.{closes}
 use Rattle.session.specs.declared.report.Report.TheVariants.{Answers, Changes}
 use Rattle.session.specs.Course.{along, state_along, steps_of_delivery, stream_text_from, version_since, answer_by, closing_by, said_by, all_said, course_ended, led_to, version_at}
 use Rattle.session.specs.Headline.{Ending, HasFates, course_of, numbers_saved}

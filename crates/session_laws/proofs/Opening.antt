@@ -15,8 +15,8 @@ use Rattle.side_output.specs.declared.entry.Cause.{Cause}
 use Rattle.side_output.specs.declared.entry.Cause.TheVariants.{Missing, Failed, Unfit as NoDocument}
 use Rattle.side_output.specs.declared.entry.Entry.{Entry}
 use Rattle.side_output.specs.declared.entry.Entry.TheVariants.{Late, Revision}
-use Rattle.rising.specs.Rising.{Each}
-use Rattle.rising.proofs.Bools.{and_left, and_right}
+use Rattle.sorted_sets.specs.Rising.{Each}
+use Rattle.sorted_sets.proofs.Bools.{and_left, and_right}
 use Rattle.replay_model.specs.Entries.{is_open_by, is_revision_of}
 use Rattle.replay_model.specs.Fate.{is_of}
 use Rattle.replay_model.specs.Records.{Bytes, is_settled, settles_at}

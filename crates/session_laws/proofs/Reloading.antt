@@ -16,7 +16,7 @@ use Rattle.checkpoint.specs.declared.fault.LoadFault.TheVariants.{ReadFault as N
 use Rattle.checkpoint.specs.Causes.{IsFileOverfull, IsNoSnapshot, longest_file}
 use Rattle.checkpoint.specs.Loading.{IsLoadable}
 use Rattle.checkpoint.specs.Saved.{AreWithin, saved_of}
-use Rattle.words.specs.Options.{closes, max_terms_of}
+use Rattle.arguments.specs.Options.{closes, max_terms_of}
 use Rattle.session.specs.declared.status.Status.{Status}
 use Rattle.session.specs.declared.status.Status.TheVariants.{Ok as Ended, BadWords, BadLine as LineRefused, ReadFault as ReadFailed, WriteFault as WriteFailed, TooLong as LimitPassed, StoreFull as RoomPassed, OutOfMemory as StatusOutOfMemory, BadSnapshot as SnapshotRefused}
 use Rattle.session.specs.declared.stop.Stop.{Stop}

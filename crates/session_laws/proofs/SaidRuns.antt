@@ -1,6 +1,6 @@
 -- What is said at the deliveries of two runs, the second from the checkpoint of the first, is what one replay says at all of them.
 use Rattle.std.proofs.Common.{◌≡◌, refl, sym, ◌∙◌, ap, ℕ, List, [], ◌∷◌, ◌++◌, append_assoc, append-nil, Option}
-use Rattle.rising.proofs.Pushes.{by_pushes}
+use Rattle.sorted_sets.proofs.Pushes.{by_pushes}
 use Rattle.delivery.specs.declared.Delivery.{Delivery}
 use Rattle.replay_model.specs.Acceptance.{mark}
 use Rattle.replay_model.specs.Play.{Replies}

@@ -3,7 +3,7 @@
 ghost use Rattle.std.specs.Prelude.{◌≡◌, ◌<◌, ◌≤◌, ◌⊎◌, ◌^◌, ℕ, true, false, length, List, [], Option, None, Some, IfSome, ◌++◌};
 ghost use Rattle.std.specs.FinMap as map;
 ghost use Rattle.std.specs.List.{flat_map};
-ghost use Rattle.rising.specs.Rising.{Each, In, has, sorted};
+ghost use Rattle.sorted_sets.specs.Rising.{Each, In, has, sorted};
 ghost use Rattle.rdf_term.specs.Order.{triple_cmp};
 ghost use Rattle.delivery.specs.declared.Delivery.{Delivery};
 ghost use Rattle.entity_model.specs.{declared.event.Event.Event, declared.id.EntityId.EntityId, Event.event_cmp};
@@ -20,7 +20,7 @@ ghost use Rattle.replica.specs.declared.record.PatchRecord.{PatchRecord};
 ghost use Rattle.patch_stream.specs.Laws.{AreOfStream, HasWritableSides};
 ghost use Rattle.patch_stream.specs.Stream.{Step, changes, steps_of_play, steps_to_end, stream, stream_text};
 ghost use Rattle.graph_routes.specs.declared.routes.Route.{Route};
-ghost use Rattle.words.specs.Options.{FollowChoices, closes, follow_max_bytes_of, max_bytes_of, max_terms_of};
+ghost use Rattle.arguments.specs.Options.{FollowChoices, closes, follow_max_bytes_of, max_bytes_of, max_terms_of};
 ghost use Rattle.following.specs.{Following.Ending as Followed, Following.FollowMoment, Following.replica_text, Reading.AreRecords};
 ghost use Rattle.checkpoint.specs.{declared.numbers.Numbers.Numbers as TheNumbers, Causes.longest_file, Saved.AreWithin};
 ghost use Rattle.session.specs.declared.report.Report.TheVariants.{Answers, Changes};

@@ -5,7 +5,7 @@ use Rattle.std.proofs.lemmas.List.{append_cancel_right, length-append, take-appe
 use Rattle.std.proofs.lemmas.Slice.Eq.{bytes_eq-Decides}
 use Rattle.std.specs.Prelude.{codes}
 use Rattle.std.specs.Str.{bytes_eq}
-use Rattle.rising.specs.Rising.{In}
+use Rattle.sorted_sets.specs.Rising.{In}
 use Rattle.sitelinks.specs.declared.project.Project.{Project}
 use Rattle.sitelinks.specs.declared.project.Project.TheVariants.{Wikibooks, Wikinews, Wikiquote, Wikisource, Wikiversity, Wikivoyage, Wiktionary, Wikipedia}
 use Rattle.sitelinks.specs.declared.sites.Site.{Site}

@@ -9,10 +9,10 @@ use Rattle.std.specs.Ordering.{eq_by_cmp}
 use Rattle.std.proofs.lemmas.Cmp.{eq_by_cmp_equiv}
 use Rattle.std.proofs.lemmas.List.{length-map}
 use Rattle.std.proofs.lemmas.Map.Made.{is_some-lookup}
-use Rattle.rising.specs.Rising.{has}
-pub use Rattle.rising.proofs.Keys.{and_first, and_second, rising_keys}
-use Rattle.rising.proofs.Rising.{same_rising}
-use Rattle.rising.proofs.Sorting.{IsRising-from_sorted}
+use Rattle.sorted_sets.specs.Rising.{has}
+pub use Rattle.sorted_sets.proofs.Keys.{and_first, and_second, rising_keys}
+use Rattle.sorted_sets.proofs.Rising.{same_rising}
+use Rattle.sorted_sets.proofs.Sorting.{IsRising-from_sorted}
 
 module _ {K X : Type 0} (R : K → K → Ordering) where
   find_lookup : (q : K) (es : List (K × X)) → map.find R q es ≡ lookup (eq_by_cmp R q) es

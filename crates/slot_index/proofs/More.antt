@@ -7,10 +7,10 @@ use Rattle.std.specs.Map as by_keys
 use Rattle.std.specs.BTreeSet.{insert_key}
 use Rattle.std.specs.Set.{remove_key}
 use Rattle.std.proofs.lemmas.Bool.{cases_lt}
-use Rattle.rising.specs.Rising.{has, IsRising}
-use Rattle.rising.proofs.Bools.{clash, equal, or_false, or_true}
-use Rattle.rising.proofs.Rising.{has-insert_key, has-tied_above}
-use Rattle.rising.proofs.Sorting.{IsStrictlySortedBy-from_rising}
+use Rattle.sorted_sets.specs.Rising.{has, IsRising}
+use Rattle.sorted_sets.proofs.Bools.{clash, equal, or_false, or_true}
+use Rattle.sorted_sets.proofs.Rising.{has-insert_key, has-tied_above}
+use Rattle.sorted_sets.proofs.Sorting.{IsStrictlySortedBy-from_rising}
 use Rattle.slot_keys.specs.declared.key.Key.{Key}
 use Rattle.slot_keys.specs.Keys.{key_cmp, key_cmp-total, key_cmp-IsAntisymmetric, same_key}
 use Rattle.slot_index.specs.Counts.{KeyCounts, HaveOwners, count_of, counts_of, raised, lowered}

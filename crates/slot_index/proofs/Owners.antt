@@ -2,7 +2,7 @@
 use Rattle.std.proofs.Common.{◌≡◌, ℕ, ◌+◌, ◌-◌, Bool, true, false, cond, List, Option, None, is_some, unwrap_or, refl, sym, ◌∙◌, ap, true≢false}
 use Rattle.std.specs.FinMap as map
 use Rattle.std.specs.Map.{lookup}
-use Rattle.rising.proofs.Bools.{equal}
+use Rattle.sorted_sets.proofs.Bools.{equal}
 use Rattle.slot_keys.specs.declared.key.Key.{Key}
 use Rattle.slot_keys.specs.Keys.{key_cmp, key_cmp-total, key_cmp-IsAntisymmetric, same_key}
 use Rattle.slot_index.specs.Counts.{KeyCounts, counts_of, count_of, with_count, raised, lowered, HaveOwners}

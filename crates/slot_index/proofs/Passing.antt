@@ -8,9 +8,9 @@ use Rattle.std.specs.BTreeSet.{insert_key}
 use Rattle.std.specs.Set.{remove_key}
 use Rattle.std.proofs.lemmas.Cmp.{tied_itself}
 use Rattle.std.proofs.lemmas.List.Sums.{sum_by-cons}
-pub use Rattle.rising.specs.Counting.{one_if}
-use Rattle.rising.specs.Rising.{has}
-use Rattle.rising.proofs.Bools.{clash, or_false_left, or_false_right}
+pub use Rattle.sorted_sets.specs.Counting.{one_if}
+use Rattle.sorted_sets.specs.Rising.{has}
+use Rattle.sorted_sets.proofs.Bools.{clash, or_false_left, or_false_right}
 
 module _ {K : Type 0} where
   pub count_by-cons : (p : K → Bool) (x : K) (xs : List K) → count_by p (x ∷ xs) ≡ one_if (p x) + count_by p xs

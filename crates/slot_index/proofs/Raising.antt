@@ -4,7 +4,7 @@ use Rattle.std.specs.Cmp.{IsTotalOrder}
 use Rattle.std.specs.FinMap as map
 use Rattle.std.specs.FinMap.{IsAntisymmetric}
 use Rattle.std.specs.Ordering.{eq_by_cmp}
-use Rattle.rising.proofs.Bools.{equal}
+use Rattle.sorted_sets.proofs.Bools.{equal}
 use Rattle.slot_index.specs.Counts.{count_of, with_count, raised, lowered, HaveOwners}
 use Rattle.slot_index.proofs.Passing.{one_if}
 

@@ -6,8 +6,8 @@ use Rattle.std.specs.Cmp.{nat_cmp_total}
 use Rattle.std.specs.Ordering.{eq_by_cmp, is_le, nat_cmp, ordering_then}
 use Rattle.std.proofs.lemmas.Cmp.{ranked}
 use Rattle.std.proofs.lemmas.List.Elements.{All-head, All-tail}
-use Rattle.rising.proofs.Bools.{clash}
-use Rattle.rising.proofs.Rising as rise
+use Rattle.sorted_sets.proofs.Bools.{clash}
+use Rattle.sorted_sets.proofs.Rising as rise
 use Rattle.block_index.specs.Blocks.{keys_between}
 use Rattle.comparison_steps.specs.Steps.{WithinSteps}
 use Rattle.slot_keys.specs.declared.key.Key.{Key}

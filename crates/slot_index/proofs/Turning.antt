@@ -5,8 +5,8 @@ use Rattle.std.specs.BTreeSet.{insert_key}
 use Rattle.std.specs.Set.{remove_key}
 use Rattle.std.proofs.lemmas.Bool.{cases_Bool}
 use Rattle.std.proofs.lemmas.Map.Views.{All-insert_key, All-remove_key}
-use Rattle.rising.specs.Rising.{has}
-use Rattle.rising.proofs.Rising.{IsRising-insert_key}
+use Rattle.sorted_sets.specs.Rising.{has}
+use Rattle.sorted_sets.proofs.Rising.{IsRising-insert_key}
 use Rattle.block_index.proofs.Removed.{IsRising-remove_key, remove_key-absent}
 use Rattle.slot_keys.specs.declared.key.Key.{Key}
 use Rattle.slot_keys.specs.Keys.{FitsSlots, key_cmp, key_cmp-total, key_cmp-IsAntisymmetric, same_key, turned}

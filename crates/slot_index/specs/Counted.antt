@@ -1,7 +1,7 @@
 -- The map to counts, kept as the set of its triples and the counts of the owners after the first.
 use Rattle.std.specs.Prelude.{◌≡◌, ◌+◌, ◌<◌, true, List}
 use Rattle.std.specs.Prelude.{map as mapped}
-use Rattle.rising.specs.Rising.{has}
+use Rattle.sorted_sets.specs.Rising.{has}
 use Rattle.slot_keys.specs.declared.key.Key.{Key}
 use Rattle.slot_keys.specs.Keys.{key_cmp}
 use Rattle.slot_index.specs.Counts.{KeyCounts, HaveOwners, count_of, counts_of}

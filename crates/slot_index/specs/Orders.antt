@@ -1,7 +1,7 @@
 -- The same set of triples in three orders.
 use Rattle.std.specs.Prelude.{◌≡◌, Bool, List, count_by}
 use Rattle.std.specs.List.{All}
-use Rattle.rising.specs.Rising.{IsRising}
+use Rattle.sorted_sets.specs.Rising.{IsRising}
 use Rattle.slot_keys.specs.declared.key.Key.{Key}
 use Rattle.slot_keys.specs.Keys.{FitsSlots, key_cmp, turned}
 

@@ -2,7 +2,7 @@
 
 ghost use Rattle.std.specs.Prelude.{◌≡◌, ◌+◌, ◌*◌, ◌^◌, ◌<◌, ◌≤◌, ◌&&◌, ℕ, Bool, true, not, [], length, map, filter, count_by, IfOk, OnOk, OnErr};
 ghost use Rattle.std.specs.{Bool.OnFalse, List.All, Ordering.eq_by_cmp, BTreeSet.insert_key, Set.remove_key};
-ghost use Rattle.rising.specs.Rising.{IsRising, has};
+ghost use Rattle.sorted_sets.specs.Rising.{IsRising, has};
 ghost use Rattle.block_index.specs.Blocks.{keys_of};
 ghost use Rattle.comparison_steps.specs.Steps.{WithinSteps};
 ghost use Rattle.slot_keys.specs.{declared.key.Key.Key as TheKey, Keys.FitsSlots, Keys.key_cmp, Keys.turned};

@@ -4,9 +4,9 @@ use Rattle.std.specs.BTreeSet.{insert_key}
 use Rattle.std.proofs.lemmas.Bool.{cases_eq}
 use Rattle.std.proofs.lemmas.List.{length-set}
 use Rattle.std.proofs.lemmas.Option.{slice_get_within}
-use Rattle.rising.specs.Rising.{has}
-use Rattle.rising.proofs.Bools.{equal, or_comm, or_false, or_swap}
-use Rattle.rising.proofs.Rising.{has-insert_key}
+use Rattle.sorted_sets.specs.Rising.{has}
+use Rattle.sorted_sets.proofs.Bools.{equal, or_comm, or_false, or_swap}
+use Rattle.sorted_sets.proofs.Rising.{has-insert_key}
 use Rattle.slot_keys.specs.declared.key.Key.{Key}
 use Rattle.slot_keys.specs.Keys.{key_cmp, key_cmp-total, key_cmp-IsAntisymmetric, same_key}
 use Rattle.slot_keys.specs.declared.added.Added.{Added}

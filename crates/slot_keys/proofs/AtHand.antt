@@ -3,10 +3,10 @@ use Rattle.std.proofs.Common.{◌≡◌, ℕ, Bool, true, false, ◌||◌, List,
 use Rattle.std.specs.Prelude.{is_err, OnOk}
 use Rattle.std.specs.BTreeSet.{insert_key}
 use Rattle.std.specs.List.Sorted.{IsSearchInRange, IsBinarySearchResult}
-use Rattle.rising.specs.Rising.{has, IsRising}
-use Rattle.rising.proofs.Bools.{equal, or_comm, or_false, or_true}
-use Rattle.rising.proofs.Rising.{has-append, has-insert_key}
-use Rattle.rising.proofs.Sorting.{found}
+use Rattle.sorted_sets.specs.Rising.{has, IsRising}
+use Rattle.sorted_sets.proofs.Bools.{equal, or_comm, or_false, or_true}
+use Rattle.sorted_sets.proofs.Rising.{has-append, has-insert_key}
+use Rattle.sorted_sets.proofs.Sorting.{found}
 use Rattle.slot_keys.specs.declared.key.Key.{Key}
 use Rattle.slot_keys.specs.Keys.{key_cmp, key_cmp-total, key_cmp-IsAntisymmetric, same_key}
 use Rattle.slot_keys.proofs.Lists.{has-push}

@@ -5,10 +5,10 @@ use Rattle.std.specs.Cmp.{IsTotalOrder}
 use Rattle.std.specs.FinMap as map
 use Rattle.std.specs.FinMap.{IsAntisymmetric}
 use Rattle.std.specs.Ordering.{eq_by_cmp}
-use Rattle.rising.specs.Rising.{has}
+use Rattle.sorted_sets.specs.Rising.{has}
 use Rattle.std.proofs.lemmas.Cmp.{tied_itself}
-use Rattle.rising.proofs.Bools.{clash, equal, or_true}
-use Rattle.rising.proofs.Rising.{has_itself}
+use Rattle.sorted_sets.proofs.Bools.{clash, equal, or_true}
+use Rattle.sorted_sets.proofs.Rising.{has_itself}
 
 module _ {K T X : Type 0} (R : K → K → Ordering) (S : T → T → Ordering) where
   abbrev pub pushed : (K → T) → List (K × X) → List (T × X)

@@ -6,9 +6,9 @@ use Rattle.std.proofs.lemmas.Cmp.{tied_itself}
 use Rattle.std.proofs.lemmas.List.{get_or-set_other, get_or-set_same, length-set}
 use Rattle.std.proofs.lemmas.List.Sums.{sum_by_more}
 use Rattle.std.proofs.lemmas.Option.{slice_get_within, get_or_from_slice_get}
-use Rattle.rising.specs.Counting.{one_if}
-use Rattle.rising.specs.Rising.{IsRising}
-use Rattle.rising.proofs.Bools.{equal}
+use Rattle.sorted_sets.specs.Counting.{one_if}
+use Rattle.sorted_sets.specs.Rising.{IsRising}
+use Rattle.sorted_sets.proofs.Bools.{equal}
 use Rattle.slot_keys.specs.declared.key.Key.{Key}
 use Rattle.slot_keys.specs.KeyCounts.{AddKeys, MovesKeys, count_beside, key_times}
 use Rattle.slot_keys.specs.Keys.{key_cmp, key_cmp-IsAntisymmetric, key_cmp-total, same_key}

@@ -7,10 +7,10 @@ use Rattle.std.specs.Ordering.{eq_by_cmp, match_ordering}
 use Rattle.std.specs.BTreeSet.{insert_key}
 use Rattle.std.proofs.lemmas.Cmp.{tied_itself}
 use Rattle.std.proofs.lemmas.List.Sums.{sum_by-cons}
-use Rattle.rising.specs.Rising.{has, IsRising}
-use Rattle.rising.proofs.Bools.{clash, equal, or_false_left, or_false_right}
-use Rattle.rising.proofs.Keys.{rising_keys}
-use Rattle.rising.proofs.Rising.{IsRising-insert_key, has-insert_key, same_rising}
+use Rattle.sorted_sets.specs.Rising.{has, IsRising}
+use Rattle.sorted_sets.proofs.Bools.{clash, equal, or_false_left, or_false_right}
+use Rattle.sorted_sets.proofs.Keys.{rising_keys}
+use Rattle.sorted_sets.proofs.Rising.{IsRising-insert_key, has-insert_key, same_rising}
 
 -- what is in a list adds at most the sum over it
 pub sum-has : {K : Type 0} {R : K → K → Ordering} → IsAntisymmetric R → (f : K → ℕ) (k : K) (xs : List K) → has R k xs ≡ true → f k ≤ sum_by f xs

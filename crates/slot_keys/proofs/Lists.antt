@@ -6,9 +6,9 @@ use Rattle.std.proofs.lemmas.Bool.{cases_lt}
 use Rattle.std.proofs.lemmas.Cmp.{tied_itself}
 use Rattle.std.proofs.lemmas.List.{take_more}
 use Rattle.std.proofs.lemmas.List.Elements.{filter-append}
-use Rattle.rising.specs.Rising.{has, Above, IsRising, difference}
-use Rattle.rising.proofs.Bools.{or_false, or_true, or_none}
-use Rattle.rising.proofs.Rising.{has-append, has_itself, turned}
+use Rattle.sorted_sets.specs.Rising.{has, Above, IsRising, difference}
+use Rattle.sorted_sets.proofs.Bools.{or_false, or_true, or_none}
+use Rattle.sorted_sets.proofs.Rising.{has-append, has_itself, turned}
 
 -- one more element at the end of a list
 pub has-push : {K : Type 0} (R : K → K → Ordering) (q : K) (xs : List K) (x : K) → has R q (xs ++ x ∷ []) ≡ (has R q xs || eq_by_cmp R q x)

@@ -4,9 +4,9 @@ use Rattle.std.specs.Cmp.{IsTotalOrder}
 use Rattle.std.specs.FinMap.{IsAntisymmetric}
 use Rattle.std.specs.Ordering.{eq_by_cmp}
 use Rattle.std.proofs.lemmas.List.{take_more}
-use Rattle.rising.specs.Rising.{has, Above, IsRising, sorted}
-use Rattle.rising.proofs.Bools.{or_assoc, or_comm, or_swap}
-use Rattle.rising.proofs.Rising.{IsRising-sorted, has-append, has-sorted, same_rising, sorted_same}
+use Rattle.sorted_sets.specs.Rising.{has, Above, IsRising, sorted}
+use Rattle.sorted_sets.proofs.Bools.{or_assoc, or_comm, or_swap}
+use Rattle.sorted_sets.proofs.Rising.{IsRising-sorted, has-append, has-sorted, same_rising, sorted_same}
 use Rattle.slot_keys.specs.Marks.{marked}
 use Rattle.slot_keys.proofs.Lists.{has-push}
 

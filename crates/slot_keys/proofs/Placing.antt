@@ -5,10 +5,10 @@ use Rattle.std.specs.BTreeSet.{insert_key}
 use Rattle.std.specs.Ordering.{eq_by_cmp, match_ordering}
 use Rattle.std.proofs.lemmas.List.{append_assoc, drop_all, drop_more, get_or-map, length-map, map_push}
 use Rattle.std.proofs.lemmas.Option.{slice_get-get_or}
-use Rattle.rising.specs.Rising.{Above, IsRising, difference, has, sorted}
-use Rattle.rising.proofs.Bools.{clash, or_swap}
-use Rattle.rising.proofs.Filtering.{Above-append}
-use Rattle.rising.proofs.Rising.{Above-weaken, has-append, has_itself, sorted_rising, sorted_same, turned}
+use Rattle.sorted_sets.specs.Rising.{Above, IsRising, difference, has, sorted}
+use Rattle.sorted_sets.proofs.Bools.{clash, or_swap}
+use Rattle.sorted_sets.proofs.Filtering.{Above-append}
+use Rattle.sorted_sets.proofs.Rising.{Above-weaken, has-append, has_itself, sorted_rising, sorted_same, turned}
 use Rattle.slot_keys.specs.declared.key.Key.{Key}
 use Rattle.slot_keys.specs.Keys.{key_cmp, key_cmp-IsAntisymmetric, key_cmp-total}
 use Rattle.slot_keys.specs.Marks.{marked}

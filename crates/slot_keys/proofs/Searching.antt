@@ -4,9 +4,9 @@ use Rattle.std.specs.Prelude.{slice_get}
 use Rattle.std.specs.List.Sorted.{IsSearchInRange, IsBinarySearchResult}
 use Rattle.std.proofs.lemmas.Cmp.{tied_itself}
 use Rattle.std.proofs.lemmas.Option.{slice_get-get_or, slice_get_within, get_or_from_slice_get}
-use Rattle.rising.specs.Rising.{Above, IsRising, has}
-use Rattle.rising.proofs.Rising.{turned}
-use Rattle.rising.proofs.Sorting.{found}
+use Rattle.sorted_sets.specs.Rising.{Above, IsRising, has}
+use Rattle.sorted_sets.proofs.Rising.{turned}
+use Rattle.sorted_sets.proofs.Sorting.{found}
 use Rattle.slot_keys.specs.declared.key.Key.{Key}
 use Rattle.slot_keys.specs.Keys.{key_cmp, key_cmp-IsAntisymmetric, key_cmp-total, same_key}
 use Rattle.slot_keys.specs.KeyCounts.{count_beside}

@@ -4,9 +4,9 @@ use Rattle.std.specs.Prelude.{slice_get, slice_set}
 use Rattle.std.specs.Prelude.{map as mapped}
 use Rattle.std.specs.Ordering.{eq_by_cmp}
 use Rattle.std.proofs.lemmas.List.{get_or-map, length-map, take_more}
-use Rattle.rising.specs.Rising.{has, sorted}
-use Rattle.rising.proofs.Bools.{clash, equal, or_assoc, or_false}
-use Rattle.rising.proofs.Rising.{has-append, has-sorted, sorted_same}
+use Rattle.sorted_sets.specs.Rising.{has, sorted}
+use Rattle.sorted_sets.proofs.Bools.{clash, equal, or_assoc, or_false}
+use Rattle.sorted_sets.proofs.Rising.{has-append, has-sorted, sorted_same}
 use Rattle.slot_keys.specs.declared.key.Key.{Key}
 use Rattle.slot_keys.specs.Keys.{key_cmp, key_cmp-IsAntisymmetric, key_cmp-total, same_key}
 use Rattle.slot_keys.specs.Marks.{marked}

@@ -1,6 +1,6 @@
 -- Keys that are found again by their buckets.
 use Rattle.std.specs.Prelude.{◌≡◌, ℕ, ◌+◌, ◌*◌, ◌%◌, max, Bool, false, ◌||◌, List, Option, None, Some, length, slice_get}
-use Rattle.rising.specs.Rising.{has}
+use Rattle.sorted_sets.specs.Rising.{has}
 use Rattle.slot_keys.specs.declared.key.Key.{Key}
 use Rattle.slot_keys.specs.Keys.{key_cmp, same_key}
 use Rattle.slot_keys.specs.declared.added.Added.{Added}

@@ -4,7 +4,7 @@ use Rattle.std.specs.declared.cmp.Ordering.{Ordering}
 use Rattle.std.specs.Ordering.{nat_cmp, on, then_cmp, eq_by_cmp}
 use Rattle.std.specs.Cmp.{IsTotalOrder, nat_cmp_total, on_total, then_total}
 use Rattle.std.specs.FinMap.{IsAntisymmetric, nat_cmp-IsAntisymmetric}
-use Rattle.rising.proofs.Bools.{then_first, then_second}
+use Rattle.sorted_sets.proofs.Bools.{then_first, then_second}
 use Rattle.slot_keys.specs.declared.key.Key.{Key}
 
 -- by the first slot, then the second, then the third

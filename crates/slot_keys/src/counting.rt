@@ -1,7 +1,7 @@
 // How many times each key of an owner comes.
 
 ghost use Rattle.std.specs.Prelude.{◌≡◌, ◌<◌, length, replicate, IfOk, IfSome};
-ghost use Rattle.rising.specs.Rising.{IsRising};
+ghost use Rattle.sorted_sets.specs.Rising.{IsRising};
 ghost use Rattle.slot_keys.specs.{KeyCounts.AddKeys, Keys.key_cmp};
 
 use crate::finding::{hinted, index_from};

@@ -2,7 +2,7 @@
 
 ghost use Rattle.std.specs.Prelude.{◌≡◌, ◌<◌, false, length, is_ok, slice_get, Some, IfNone, IfSome};
 ghost use Rattle.std.specs.List.Sorted.{IsSearchInRange};
-ghost use Rattle.rising.specs.Rising.{IsRising, has};
+ghost use Rattle.sorted_sets.specs.Rising.{IsRising, has};
 ghost use Rattle.slot_keys.specs.Keys.{key_cmp};
 
 use crate::key::Key;

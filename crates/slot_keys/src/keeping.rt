@@ -2,7 +2,7 @@
 
 ghost use Rattle.std.specs.Prelude.{◌≡◌, ◌++◌, ◌<◌, ◌≤◌, true, false, length, nat_lt, IfOk};
 ghost use Rattle.std.specs.Prelude.{map as mapped};
-ghost use Rattle.rising.specs.Rising.{IsRising, difference, has, sorted};
+ghost use Rattle.sorted_sets.specs.Rising.{IsRising, difference, has, sorted};
 ghost use Rattle.slot_keys.specs.{declared.key.Key.Key as TheKey, Keys.key_cmp, Marks.marked, KeyCounts.count_beside, KeyCounts.counted_keys};
 
 use crate::counting::no_counts;

@@ -1,7 +1,7 @@
 // The keys of the triples of one owner.
 
 ghost use Rattle.std.specs.Prelude.{◌≡◌, ◌++◌, ◌∷◌, [], Some, length, slice_get, IfOk, IfSome, OnOk};
-ghost use Rattle.rising.specs.Rising.{IsRising, has, sorted};
+ghost use Rattle.sorted_sets.specs.Rising.{IsRising, has, sorted};
 ghost use Rattle.slot_keys.specs.{declared.key.Key.Key as TheKey, Keys.key_cmp, Marks.marked};
 
 use crate::added::{BUCKETS, bucket_of};

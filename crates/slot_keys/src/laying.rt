@@ -3,7 +3,7 @@
 ghost use Rattle.std.specs.Prelude.{◌≡◌, ◌≤◌, ◌++◌, ◌∷◌, if◌then◌else◌, ℕ, not, true, false, List, [], drop, length, IfOk, OnOk};
 ghost use Rattle.std.specs.Prelude.{map as mapped};
 ghost use Rattle.std.specs.declared.cmp.Ordering.TheVariants.{Less};
-ghost use Rattle.rising.specs.Rising.{Above, IsRising, has, sorted};
+ghost use Rattle.sorted_sets.specs.Rising.{Above, IsRising, has, sorted};
 ghost use Rattle.slot_keys.specs.{declared.key.Key.Key as TheKey, Keys.key_cmp, Marks.marked, KeyCounts.count_beside};
 
 use crate::key::Key;

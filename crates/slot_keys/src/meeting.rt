@@ -1,7 +1,7 @@
 // The keys of triples that come.
 
 ghost use Rattle.std.specs.Prelude.{◌≡◌, ◌≤◌, [], vec_len, vec_capacity, IfOk, IsOk};
-ghost use Rattle.rising.specs.Rising.{IsRising, sorted};
+ghost use Rattle.sorted_sets.specs.Rising.{IsRising, sorted};
 ghost use Rattle.slot_keys.specs.Keys.{key_cmp};
 
 use crate::key::Key;

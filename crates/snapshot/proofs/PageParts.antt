@@ -8,7 +8,7 @@ use Rattle.std.proofs.lemmas.Bool.Decides.{nat_tests}
 use Rattle.std.proofs.lemmas.List.{drop_at, length-append, length_push, take-append-drop, take_at}
 use Rattle.std.proofs.lemmas.List.Folds.{list_any-append}
 use Rattle.std.proofs.lemmas.Slice.Eq.{bytes_eq-Decides}
-use Rattle.rising.proofs.Bools.{or_false_left, or_false_right}
+use Rattle.sorted_sets.proofs.Bools.{or_false_left, or_false_right}
 use Rattle.snapshot.specs.LineText.{around_tab, is_tab, page_parts, without_prefix, without_suffix}
 
 -- ---- a prefix

@@ -8,8 +8,8 @@ use Rattle.std.specs.List.{cons_option}
 use Rattle.std.specs.FinMap as finite
 use Rattle.std.specs.FinMap.{entries-insert, get-entries, len-entries, len-empty}
 use Rattle.std.specs.FinMap.Entries.{find, put, by_order}
-use Rattle.rising.specs.Rising.{Each}
-use Rattle.rising.proofs.Pushes.{by_pushes}
+use Rattle.sorted_sets.specs.Rising.{Each}
+use Rattle.sorted_sets.proofs.Pushes.{by_pushes}
 use Rattle.entity_model.specs.declared.id.EntityId.{EntityId}
 use Rattle.entity_model.specs.declared.event.Event.{Event}
 use Rattle.entity_model.specs.declared.event.Kind.{Kind}

@@ -2,7 +2,7 @@
 use Rattle.std.specs.Prelude.{ℕ, ◌<◌, ◌^◌, ◌==◌, cond, List, [], ◌∷◌, map, length, Option, Some, None, option_map, option_and_then, IfSome, FitsSigned}
 use Rattle.std.specs.Int.{w64}
 use Rattle.std.specs.FinMap as finite
-use Rattle.rising.specs.Rising.{Each}
+use Rattle.sorted_sets.specs.Rising.{Each}
 use Rattle.wq_io.specs.Lines.{line_feed, ended_lines}
 use Rattle.entity_model.specs.EntityId.{IsId}
 use Rattle.snapshot.specs.declared.line.Line.{Line}

@@ -2,7 +2,7 @@
 
 ghost use Rattle.std.specs.Prelude.{◌≡◌, ◌<◌, ◌^◌, IfSome, ℕ, ℤ, List, [], ◌++◌, Option, Some, None, filter, fold, length, take};
 ghost use Rattle.wq_io.specs.Lines.{IsOneLine};
-ghost use Rattle.rising.specs.Rising.{Each};
+ghost use Rattle.sorted_sets.specs.Rising.{Each};
 ghost use Rattle.std.specs.Str.{IsUtf8};
 ghost use Rattle.entity_json.specs.Document.{unfit_of};
 ghost use Rattle.entity_model.specs.{declared.id.EntityId.EntityId, EntityId.entity_cmp};

@@ -4,8 +4,8 @@ use Rattle.std.specs.FinMap as map
 use Rattle.std.specs.Cmp.{eq_by_cmp_equiv}
 use Rattle.std.specs.List.{AllByRecursion}
 use Rattle.std.specs.Ordering.{eq_by_cmp}
-use Rattle.rising.specs.Rising.{has, sorted}
-use Rattle.rising.proofs.Rising.{has-append, has-sorted}
+use Rattle.sorted_sets.specs.Rising.{has, sorted}
+use Rattle.sorted_sets.proofs.Rising.{has-append, has-sorted}
 use Rattle.rdf_term.specs.declared.triple.Triple.{Triple}
 use Rattle.rdf_term.specs.Fit.{HasFitAndShortTerms}
 use Rattle.rdf_term.specs.Order.{triple_cmp, triple_cmp-total}

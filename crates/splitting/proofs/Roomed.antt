@@ -1,7 +1,7 @@
 -- A graph has room where the world that it follows has it.
 use Rattle.std.proofs.Common.{◌≡◌, ℕ, ◌≤◌, ◌||◌, List, ◌++◌, Option, None, Some, IfSome, refl, sym, ◌∙◌, ap, arith}
-use Rattle.rising.specs.Rising.{has, sorted}
-use Rattle.rising.proofs.Rising.{has-append, has-sorted}
+use Rattle.sorted_sets.specs.Rising.{has, sorted}
+use Rattle.sorted_sets.proofs.Rising.{has-append, has-sorted}
 use Rattle.rdf_term.specs.declared.triple.Triple.{Triple}
 use Rattle.rdf_term.specs.Order.{triple_cmp, triple_cmp-total}
 use Rattle.entity_model.specs.declared.id.EntityId.{EntityId}

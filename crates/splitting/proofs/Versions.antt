@@ -1,7 +1,7 @@
 -- What is routed to a graph, where every page is mapped by one version, and what graphs have that follow a world.
 use Rattle.std.proofs.Common.{◌≡◌, ℕ, true, List, Option, None, Some, is_some, unwrap_or, refl, sym, ◌∙◌, ap, subst}
 use Rattle.std.specs.FinMap as map
-use Rattle.rising.specs.Rising.{has}
+use Rattle.sorted_sets.specs.Rising.{has}
 use Rattle.rdf_term.specs.declared.triple.Triple.{Triple}
 use Rattle.rdf_term.specs.Order.{triple_cmp}
 use Rattle.entity_model.specs.declared.id.EntityId.{EntityId}

@@ -1,7 +1,7 @@
 -- Graphs that are filled with what a world holds.
 use Rattle.std.specs.Prelude.{◌≡◌, cond, List, Option, None, Some}
 use Rattle.std.specs.FinMap as map
-use Rattle.rising.specs.Rising.{has}
+use Rattle.sorted_sets.specs.Rising.{has}
 use Rattle.entity_model.specs.declared.id.EntityId.{EntityId}
 use Rattle.entity_model.specs.EntityId.{entity_cmp}
 use Rattle.replay_model.specs.Records.{record_of}

@@ -1,7 +1,7 @@
 -- What holds of each element of a list holds of each member, and the other way round.
 use Rattle.std.proofs.Common.{List, [], ◌∷◌, refl, sym, subst, inl, inr}
 use Rattle.std.specs.List.{AllByRecursion}
-use Rattle.rising.specs.Rising.{In}
+use Rattle.sorted_sets.specs.Rising.{In}
 
 module _ {A : Type 0} (P : A → Type 0) where
   pub of_member : (xs : List A) (a : A) → AllByRecursion P xs → In a xs → P a

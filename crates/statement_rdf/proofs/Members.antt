@@ -1,7 +1,7 @@
 -- What is in lists that are joined.
 use Rattle.std.proofs.Common.{inl, inr, List, [], ◌∷◌, ◌++◌, ◌⊎◌, refl, subst}
 use Rattle.std.specs.List.{flat_map}
-use Rattle.rising.specs.Rising.{In}
+use Rattle.sorted_sets.specs.Rising.{In}
 
 module _ {A : Type 0} (a : A) where
   -- in the first of two lists

@@ -1,6 +1,6 @@
 -- The triples of snaks and statements again, one by one: each case is a rule of the RDF dump format.
 use Rattle.std.specs.Prelude.{◌≡◌, ℕ, Bool, true, List, Some}
-use Rattle.rising.specs.Rising.{In}
+use Rattle.sorted_sets.specs.Rising.{In}
 use Rattle.rdf_term.specs.declared.term.Term.{Term}
 use Rattle.rdf_term.specs.declared.triple.Triple.{Triple}
 use Rattle.rdf_term.specs.Triple.{triple}

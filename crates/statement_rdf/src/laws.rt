@@ -2,7 +2,7 @@
 
 ghost use Rattle.std.specs.Prelude.{Bool, ◌↔◌};
 ghost use Rattle.std.specs.List.{AllByRecursion};
-ghost use Rattle.rising.specs.Rising.{In};
+ghost use Rattle.sorted_sets.specs.Rising.{In};
 ghost use Rattle.rdf_term.specs.{declared.term.Term.Term, declared.triple.Triple.Triple, Fit.HasFitAndShortTerms, Fit.IsFitAndShort};
 ghost use Rattle.entity_model.specs.{Statement.IsSmallStatement, declared.mapping.MappingVersion.MappingVersion};
 ghost use Rattle.entity_model.specs.declared.statement.Statement.{Statement};

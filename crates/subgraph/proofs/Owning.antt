@@ -6,10 +6,10 @@ use Rattle.std.specs.FinMap.Entries.{below_all, by_order}
 use Rattle.std.specs.Cmp.{IsTotalOrder, eq_by_cmp_equiv}
 use Rattle.std.specs.Ordering.{eq_by_cmp, ordering_reverse}
 use Rattle.std.proofs.lemmas.List.Sums.{count_by-le-length, sum_by-cons}
-use Rattle.rising.specs.Rising.{In, has, sorted}
-use Rattle.rising.proofs.Bools.{equal}
-use Rattle.rising.proofs.Keys.{and_first, and_second, less}
-use Rattle.rising.proofs.Rising.{IsRising-sorted, has-append, has-sorted, same_rising}
+use Rattle.sorted_sets.specs.Rising.{In, has, sorted}
+use Rattle.sorted_sets.proofs.Bools.{equal}
+use Rattle.sorted_sets.proofs.Keys.{and_first, and_second, less}
+use Rattle.sorted_sets.proofs.Rising.{IsRising-sorted, has-append, has-sorted, same_rising}
 use Rattle.rdf_term.specs.declared.triple.Triple.{Triple}
 use Rattle.rdf_term.specs.Order.{triple_cmp, triple_cmp-total}
 use Rattle.rdf_term.proofs.Texts.{triple_cmp-IsAntisymmetric}

@@ -7,7 +7,7 @@ use Rattle.std.specs.List.{AllByRecursion}
 use Rattle.std.specs.Option.{option_and_then}
 use Rattle.std.specs.Ordering.{eq_by_cmp}
 use Rattle.std.proofs.lemmas.Bool.Decides.{eqb_tells}
-use Rattle.rising.specs.Rising.{has}
+use Rattle.sorted_sets.specs.Rising.{has}
 use Rattle.rdf_term.specs.declared.triple.Triple.{Triple}
 use Rattle.rdf_term.specs.Order.{triple_cmp}
 use Rattle.entity_model.specs.declared.id.EntityId.{EntityId}

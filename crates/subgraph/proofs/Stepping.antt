@@ -5,9 +5,9 @@ use Rattle.std.specs.FinMap as map
 use Rattle.std.specs.FinMap.{find}
 use Rattle.std.specs.Cmp.{eq_by_cmp_equiv}
 use Rattle.std.specs.Ordering.{eq_by_cmp}
-use Rattle.rising.specs.Counting.{one_if}
-use Rattle.rising.specs.Rising.{has, sorted}
-use Rattle.rising.proofs.Rising.{IsRising-sorted, has-sorted, sorted_rising, sorted_same}
+use Rattle.sorted_sets.specs.Counting.{one_if}
+use Rattle.sorted_sets.specs.Rising.{has, sorted}
+use Rattle.sorted_sets.proofs.Rising.{IsRising-sorted, has-sorted, sorted_rising, sorted_same}
 use Rattle.rdf_term.specs.declared.triple.Triple.{Triple}
 use Rattle.rdf_term.specs.Order.{triple_cmp, triple_cmp-total}
 use Rattle.rdf_term.proofs.Texts.{triple_cmp-IsAntisymmetric}

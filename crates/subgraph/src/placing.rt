@@ -2,7 +2,7 @@
 
 ghost use Rattle.std.specs.Prelude.{◌≡◌, ◌<◌, ◌≤◌, ℕ, length, true, false, is_some, slice_get, None, Some, Err, IfNone, IfSome, OnErr, OnOk};
 ghost use Rattle.std.specs.List.{AllByRecursion};
-ghost use Rattle.rising.specs.Rising.{sorted};
+ghost use Rattle.sorted_sets.specs.Rising.{sorted};
 ghost use Rattle.rdf_term.specs.{Fit.HasFitAndShortTerms, Order.triple_cmp};
 ghost use Rattle.term_pool.specs.declared.fault.PoolFault.TheVariants.{Full};
 ghost use Rattle.subgraph.specs.{Entries.terms_with, Entries.union_of, Placing.AreApart, Placing.IsPlaced, Placing.IsSetAt, Placing.set_at};

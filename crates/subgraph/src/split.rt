@@ -3,7 +3,7 @@
 ghost use Rattle.std.specs.Prelude.{◌≡◌, ◌<◌, ◌≤◌, Err, IfOk, IfSome, OnOk, OnErr};
 ghost use Rattle.std.specs.FinMap as map;
 ghost use Rattle.std.specs.List.{AllByRecursion};
-ghost use Rattle.rising.specs.Rising.{IsRising, sorted};
+ghost use Rattle.sorted_sets.specs.Rising.{IsRising, sorted};
 ghost use Rattle.rdf_term.specs.{Fit.HasFitAndShortTerms, Order.triple_cmp, Pattern.rows};
 ghost use Rattle.term_pool.specs.declared.fault.PoolFault.TheVariants.{Full};
 ghost use Rattle.subgraph.specs.{Entries.graph_triples, Entries.terms_with, Split.entry, Split.graph_of};

@@ -4,7 +4,7 @@ use Rattle.std.specs.List.{Contains}
 use Rattle.std.specs.HashMap.{get as map_get}
 use Rattle.std.proofs.lemmas.Bool.{cases_eq}
 use Rattle.slab.specs.Slab.{get, slab_len}
-pub use Rattle.rising.proofs.Counting.{if_other, if_same}
+pub use Rattle.sorted_sets.proofs.Counting.{if_other, if_same}
 use Rattle.text_region.specs.declared.piece.Piece.{Piece}
 use Rattle.text_region.specs.Region.{Texts, bytes_of}
 use Rattle.term_pool.specs.declared.slots.Entry.{Entry}

@@ -3,7 +3,7 @@ use Rattle.std.specs.Prelude.{◌≡◌, ◌≢◌, ℕ, ◌+◌, ◌<◌, ◌�
 use Rattle.std.specs.List.{list_any}
 use Rattle.std.specs.HashMap.{get as map_get}
 use Rattle.slab.specs.Slab.{get, slab_len}
-pub use Rattle.rising.specs.Counting.{one_if}
+pub use Rattle.sorted_sets.specs.Counting.{one_if}
 use Rattle.rdf_term.specs.declared.term.Term.{Term}
 use Rattle.rdf_term.specs.Fit.{IsFitAndShort}
 use Rattle.term_reading.specs.Reader.{read}

@@ -2,7 +2,7 @@
 use Rattle.std.proofs.Common.{◌≡◌, ℕ, ◌<◌, ◌≤◌, false, List, [], ◌∷◌, ◌++◌, None, length, refl, arith, nat_lt}
 use Rattle.std.proofs.lemmas.Bool.{le-ltb, ltb-false}
 use Rattle.std.proofs.lemmas.Str.{length-encode, len_utf8_bounds}
-use Rattle.rising.specs.Rising.{Each}
+use Rattle.sorted_sets.specs.Rising.{Each}
 use Rattle.rdf_term.proofs.HighBytes.{encode_high}
 use Rattle.term_reading.specs.Reader.{split_ascii}
 use lib.Utf8.{encode}

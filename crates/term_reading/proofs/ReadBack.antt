@@ -3,7 +3,7 @@ use Rattle.std.proofs.Common.{◌≡◌, ℕ, ◌≤◌, true, false, not, ◌&&
 use Rattle.std.specs.Str.{bytes_eq}
 use Rattle.std.proofs.lemmas.Bool.{cases_Bool, cases_eq, cases_lt, ne_eqb, and_parts, and_from, not-true}
 use Rattle.std.proofs.lemmas.Str.{encode_ascii}
-use Rattle.rising.specs.Rising.{Each}
+use Rattle.sorted_sets.specs.Rising.{Each}
 use Rattle.term_reading.specs.declared.content.Enclosure.TheVariants.{Brackets, Quotes}
 use Rattle.base.specs.declared.memory.OutOfMemory.{OutOfMemory}
 use Rattle.rdf_term.specs.declared.term.Term.{Term}

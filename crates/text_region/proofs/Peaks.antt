@@ -3,7 +3,7 @@ use Rattle.std.proofs.Common.{◌≡◌, ℕ, ◌+◌, ◌≤◌, max, List, [],
 use Rattle.std.specs.Prelude.{◌==◌, if◌then◌else◌}
 use Rattle.std.proofs.lemmas.Bool.{cases_eq}
 use Rattle.std.proofs.lemmas.Bool.Decides.{eqb_tells}
-use Rattle.rising.specs.Counting.{one_if}
+use Rattle.sorted_sets.specs.Counting.{one_if}
 use Rattle.text_region.specs.Region.{Texts, live, made}
 use Rattle.text_region.specs.Peak.{IsHistory, begins, goes_on, IsNext, placed, freed, refused, peak}
 

@@ -4,7 +4,7 @@ use Rattle.std.specs.Prelude.{is_some, count_by, cond, IsSome, ◌==◌, if◌th
 use Rattle.std.proofs.lemmas.Bool.{cases_lt, cases_eq}
 use Rattle.std.proofs.lemmas.List.{length-set, length_push, get_or-set_same, get_or-set_other, get_or_past, get_or-map, map-set, length-map}
 use Rattle.std.proofs.lemmas.List.Sums.{sum_by-set, sum_by_push}
-use Rattle.rising.proofs.Counting.{if_other, if_same}
+use Rattle.sorted_sets.proofs.Counting.{if_other, if_same}
 use Rattle.text_region.specs.declared.piece.Piece.{Piece}
 use Rattle.text_region.specs.Class.{IsClassOf, size_of}
 use Rattle.text_region.specs.Blocks.{Blocks, Shelf, block_at, HasPut, HasFreed}

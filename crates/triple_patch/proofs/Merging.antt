@@ -2,9 +2,9 @@
 use Rattle.std.proofs.Common.{◌≡◌, not, ◌||◌, cond, List, [], ◌∷◌, ◌++◌, length, Ordering, Less, Equal, Greater, is_eq, append_assoc, append-nil, arith, refl, sym, ◌∙◌, ap, subst}
 use Rattle.std.specs.Cmp.{IsTotalOrder}
 use Rattle.std.proofs.lemmas.Cmp.{tied_back}
-use Rattle.rising.specs.Rising.{has, Above, IsRising, difference}
-use Rattle.rising.proofs.Filtering.{IsRising-filter}
-use Rattle.rising.proofs.Rising.{turned, Above-weaken, has-above}
+use Rattle.sorted_sets.specs.Rising.{has, Above, IsRising, difference}
+use Rattle.sorted_sets.proofs.Filtering.{IsRising-filter}
+use Rattle.sorted_sets.proofs.Rising.{turned, Above-weaken, has-above}
 
 -- where a merge stands: what it has put out, with the differences of what is left, is the whole differences
 pub record Merging {K : Type 0} (R : K → K → Ordering) (old new left right removes adds : List K) : Type 0 where

@@ -1,6 +1,6 @@
 -- What a patch is.
 use Rattle.std.specs.Prelude.{List}
-use Rattle.rising.specs.Rising.{difference}
+use Rattle.sorted_sets.specs.Rising.{difference}
 use Rattle.rdf_term.specs.declared.triple.Triple.{Triple}
 use Rattle.rdf_term.specs.Order.{triple_cmp}
 use Rattle.triple_patch.specs.declared.changes.Patch.{Patch}

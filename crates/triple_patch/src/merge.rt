@@ -1,7 +1,7 @@
 // The patch from one set to another, by one merge of their triples.
 
 ghost use Rattle.std.specs.Prelude.{◌≡◌, ◌++◌, IfOk};
-ghost use Rattle.rising.specs.Rising.{IsRising, difference};
+ghost use Rattle.sorted_sets.specs.Rising.{IsRising, difference};
 ghost use Rattle.rdf_term.specs.Order.{triple_cmp};
 ghost use Rattle.triple_patch.specs.Patch.{patch_between};
 

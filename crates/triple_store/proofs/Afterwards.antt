@@ -3,9 +3,9 @@ use Rattle.std.proofs.Common.{◌≡◌, ℕ, ◌+◌, ◌<◌, ◌≤◌, Bool,
 use Rattle.std.specs.List.{flat_map}
 use Rattle.std.specs.FinMap as map
 use Rattle.term_pool.specs.Pool.{one_if}
-use Rattle.rising.specs.Rising.{IsRising, has}
-use Rattle.rising.proofs.Rising.{has-append, sorted_same}
-use Rattle.rising.proofs.Bools.{or_true}
+use Rattle.sorted_sets.specs.Rising.{IsRising, has}
+use Rattle.sorted_sets.proofs.Rising.{has-append, sorted_same}
+use Rattle.sorted_sets.proofs.Bools.{or_true}
 use Rattle.rdf_term.specs.declared.term.Term.{Term}
 use Rattle.rdf_term.specs.declared.triple.Triple.{Triple}
 use Rattle.rdf_term.specs.Order.{term_cmp, term_cmp-total, triple_cmp}

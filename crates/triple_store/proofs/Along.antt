@@ -2,8 +2,8 @@
 use Rattle.std.proofs.Common.{◌≡◌, ℕ, ◌+◌, ◌<◌, true, List, [], ◌∷◌, ◌++◌, length, take, IfSome, sym, ◌∙◌, ap}
 use Rattle.std.proofs.lemmas.List.{map-append}
 use Rattle.std.specs.Prelude.{slice_get}
-use Rattle.rising.specs.Rising.{has, sorted}
-use Rattle.rising.proofs.Rising.{has-append, has-sorted}
+use Rattle.sorted_sets.specs.Rising.{has, sorted}
+use Rattle.sorted_sets.proofs.Rising.{has-append, has-sorted}
 use Rattle.rdf_term.specs.declared.triple.Triple.{Triple}
 use Rattle.rdf_term.specs.Order.{triple_cmp}
 use Rattle.triple_texts.specs.declared.triple_text.TripleText.{TripleText}

@@ -14,7 +14,7 @@ use Rattle.std.proofs.lemmas.List.{get_or-map, length-map}
 use Rattle.std.proofs.lemmas.List.Elements.{All-get_or, All-map, All-tail}
 use Rattle.std.proofs.lemmas.Option.{slice_get-get_or, slice_get-map}
 use Rattle.std.proofs.lemmas.List.Sorted.{All-permutation, IsPermutation-map, ranks_by, sorted_far}
-use Rattle.rising.proofs.Rising.{turned}
+use Rattle.sorted_sets.proofs.Rising.{turned}
 use Rattle.rdf_term.specs.Order.{bytes_cmp, triple_cmp}
 use Rattle.rdf_term.specs.Text.{term_text}
 use Rattle.rdf_term.specs.Undo.{undo}

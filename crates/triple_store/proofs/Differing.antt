@@ -9,10 +9,10 @@ use Rattle.std.proofs.lemmas.List.{take_more}
 use Rattle.std.proofs.lemmas.List.Concat.{flat_map-append}
 use Rattle.std.proofs.lemmas.Option.{slice_get-get_or}
 use Rattle.std.proofs.lemmas.List.Sorted.{All-permutation, IsPermutation-map}
-use Rattle.rising.specs.Rising.{has, IsRising, difference, sorted}
-use Rattle.rising.proofs.Bools.{and_left, and_right}
-use Rattle.rising.proofs.Filtering.{has-difference, has-filter, IsRising-filter}
-use Rattle.rising.proofs.Rising.{IsRising-sorted, has-sorted, same_rising}
+use Rattle.sorted_sets.specs.Rising.{has, IsRising, difference, sorted}
+use Rattle.sorted_sets.proofs.Bools.{and_left, and_right}
+use Rattle.sorted_sets.proofs.Filtering.{has-difference, has-filter, IsRising-filter}
+use Rattle.sorted_sets.proofs.Rising.{IsRising-sorted, has-sorted, same_rising}
 use Rattle.rdf_term.specs.declared.triple.Triple.{Triple}
 use Rattle.rdf_term.specs.Order.{triple_cmp, triple_cmp-total}
 use Rattle.rdf_term.specs.Text.{triple_text}

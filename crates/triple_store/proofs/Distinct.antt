@@ -5,10 +5,10 @@ use Rattle.std.specs.FinMap.{IsAntisymmetric}
 use Rattle.std.specs.Ordering.{eq_by_cmp, match_ordering}
 use Rattle.std.specs.BTreeSet.{insert_key}
 use Rattle.std.proofs.lemmas.List.Sums.{count_by-le-length, length-filter, sum_by-cons}
-use Rattle.rising.specs.Rising.{has, sorted}
-use Rattle.rising.proofs.Bools.{clash, equal, or_false_left, or_false_right}
-use Rattle.rising.proofs.Filtering.{IsRising-filter, has-filter}
-use Rattle.rising.proofs.Rising.{IsRising-sorted, has-sorted, same_rising}
+use Rattle.sorted_sets.specs.Rising.{has, sorted}
+use Rattle.sorted_sets.proofs.Bools.{clash, equal, or_false_left, or_false_right}
+use Rattle.sorted_sets.proofs.Filtering.{IsRising-filter, has-filter}
+use Rattle.sorted_sets.proofs.Rising.{IsRising-sorted, has-sorted, same_rising}
 use Rattle.rdf_term.specs.declared.term.Term.{Term}
 use Rattle.rdf_term.specs.Order.{term_cmp, term_cmp-total}
 use Rattle.rdf_term.specs.Text.{term_text}

@@ -1,10 +1,10 @@
 -- What counts say after the triples of some keys came or went, by the triples.
 use Rattle.std.proofs.Common.{◌≡◌, ℕ, ◌+◌, ◌<◌, Bool, true, false, not, ◌&&◌, List, [], ◌∷◌, refl, sym, ◌∙◌, ap, subst, arith, true≢false}
 use Rattle.std.specs.Prelude.{map as mapped}
-use Rattle.rising.specs.Rising.{has, difference, sorted}
-use Rattle.rising.proofs.Bools.{and_left, and_right, clash, or_true}
-use Rattle.rising.proofs.Filtering.{filter_all, has-difference}
-use Rattle.rising.proofs.Rising.{IsRising-sorted, has-sorted, has_itself}
+use Rattle.sorted_sets.specs.Rising.{has, difference, sorted}
+use Rattle.sorted_sets.proofs.Bools.{and_left, and_right, clash, or_true}
+use Rattle.sorted_sets.proofs.Filtering.{filter_all, has-difference}
+use Rattle.sorted_sets.proofs.Rising.{IsRising-sorted, has-sorted, has_itself}
 use Rattle.rdf_term.specs.declared.triple.Triple.{Triple}
 use Rattle.rdf_term.specs.Order.{triple_cmp}
 use Rattle.text_region.specs.Region.{Texts}

@@ -1,6 +1,6 @@
 -- How many times each triple of an owner comes is known on while others exchange theirs.
 use Rattle.std.proofs.Common.{◌≡◌, ℕ, ◌<◌, true, List, [], get_or, sym, ◌∙◌, ap, arith}
-use Rattle.rising.specs.Rising.{has}
+use Rattle.sorted_sets.specs.Rising.{has}
 use Rattle.rdf_term.specs.declared.triple.Triple.{Triple}
 use Rattle.rdf_term.specs.Order.{triple_cmp}
 use Rattle.slot_keys.specs.declared.key.Key.{Key}

@@ -3,8 +3,8 @@ use Rattle.std.proofs.Common.{◌≡◌, ◌≢◌, ℕ, zero, suc, ◌<◌, ◌
 use Rattle.std.specs.FinMap as map
 use Rattle.std.specs.Cmp.{both_ways}
 use Rattle.std.proofs.lemmas.Cmp.{tied_itself}
-use Rattle.rising.specs.Rising.{has}
-use Rattle.rising.proofs.Bools.{clash, equal, or_true}
+use Rattle.sorted_sets.specs.Rising.{has}
+use Rattle.sorted_sets.proofs.Bools.{clash, equal, or_true}
 use Rattle.rdf_term.specs.declared.triple.Triple.{Triple}
 use Rattle.rdf_term.specs.Order.{triple_cmp, triple_cmp-total}
 use Rattle.rdf_term.specs.Text.{term_text}

@@ -6,10 +6,10 @@ use Rattle.std.specs.Cmp.{both_ways, nat_cmp_total}
 use Rattle.std.specs.FinMap.{nat_cmp-IsAntisymmetric}
 use Rattle.std.specs.Ordering.{eq_by_cmp, nat_cmp}
 use Rattle.std.proofs.lemmas.Cmp.{tied_itself}
-use Rattle.rising.specs.Rising.{has, sorted}
-use Rattle.rising.proofs.Bools.{and_none, clash, equal, or_true}
-use Rattle.rising.proofs.Filtering.{IsRising-filter, has-filter}
-use Rattle.rising.proofs.Rising.{IsRising-sorted, has-sorted, has_itself, same_rising}
+use Rattle.sorted_sets.specs.Rising.{has, sorted}
+use Rattle.sorted_sets.proofs.Bools.{and_none, clash, equal, or_true}
+use Rattle.sorted_sets.proofs.Filtering.{IsRising-filter, has-filter}
+use Rattle.sorted_sets.proofs.Rising.{IsRising-sorted, has-sorted, has_itself, same_rising}
 use Rattle.rdf_term.specs.declared.triple.Triple.{Triple}
 use Rattle.rdf_term.specs.declared.pattern.Pattern.{Pattern}
 use Rattle.rdf_term.specs.declared.term.Term.{Term}

@@ -3,9 +3,9 @@ use Rattle.std.proofs.Common.{◌≡◌, ℕ, ◌+◌, ◌<◌, ◌≤◌, Bool,
 use Rattle.std.specs.Ordering.{eq_by_cmp}
 use Rattle.std.proofs.lemmas.List.{length-append, length-map}
 use Rattle.std.proofs.lemmas.List.Sums.{sum_by-append}
-use Rattle.rising.specs.Rising.{Above, IsRising, has}
-use Rattle.rising.proofs.Bools.{equal, or_false, or_true}
-use Rattle.rising.proofs.Rising.{has_itself}
+use Rattle.sorted_sets.specs.Rising.{Above, IsRising, has}
+use Rattle.sorted_sets.proofs.Bools.{equal, or_false, or_true}
+use Rattle.sorted_sets.proofs.Rising.{has_itself}
 use Rattle.rdf_term.specs.declared.triple.Triple.{Triple}
 use Rattle.rdf_term.specs.Order.{triple_cmp, triple_cmp-total}
 use Rattle.rdf_term.proofs.Texts.{triple_cmp-IsAntisymmetric}

@@ -1,7 +1,7 @@
 -- The triples of one owner's keys, in order.
 use Rattle.std.proofs.Common.{◌≡◌, List, Result, Ok, Err, IfOk, sym, ◌∙◌}
-use Rattle.rising.specs.Rising.{sorted}
-use Rattle.rising.proofs.Rising.{sorted_same}
+use Rattle.sorted_sets.specs.Rising.{sorted}
+use Rattle.sorted_sets.proofs.Rising.{sorted_same}
 use Rattle.base.specs.declared.memory.OutOfMemory.{OutOfMemory}
 use Rattle.rdf_term.specs.declared.triple.Triple.{Triple}
 use Rattle.rdf_term.specs.Order.{triple_cmp, triple_cmp-total}

@@ -12,11 +12,11 @@ use Rattle.std.proofs.lemmas.List.{get_or-map, length-map}
 use Rattle.std.proofs.lemmas.List.Elements.{All-get_or}
 use Rattle.std.proofs.lemmas.List.Sorted.{All-permutation, IsPermutation-map, sum_by-IsPermutation}
 use Rattle.std.proofs.lemmas.List.Sums.{length-filter}
-use Rattle.rising.specs.Rising.{IsRising, has, sorted}
-use Rattle.rising.proofs.Bools.{clash, equal, or_false_left}
-use Rattle.rising.proofs.Filtering.{filter_all}
-use Rattle.rising.proofs.Rising.{IsRising-sorted, turned}
-use Rattle.rising.proofs.Sorting.{deduped}
+use Rattle.sorted_sets.specs.Rising.{IsRising, has, sorted}
+use Rattle.sorted_sets.proofs.Bools.{clash, equal, or_false_left}
+use Rattle.sorted_sets.proofs.Filtering.{filter_all}
+use Rattle.sorted_sets.proofs.Rising.{IsRising-sorted, turned}
+use Rattle.sorted_sets.proofs.Sorting.{deduped}
 use Rattle.rdf_term.specs.declared.triple.Triple.{Triple}
 use Rattle.rdf_term.specs.declared.pattern.Pattern.{Pattern}
 use Rattle.rdf_term.specs.Order.{bytes_cmp, triple_cmp, triple_cmp-total}

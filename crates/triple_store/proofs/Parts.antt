@@ -2,9 +2,9 @@
 use Rattle.std.proofs.Common.{◌≡◌, ℕ, ◌+◌, ◌<◌, Bool, true, false, not, ◌&&◌, ◌||◌, ⊎_elim, List, [], ◌++◌, length, refl, sym, ◌∙◌, ap, subst, true≢false}
 use Rattle.std.specs.List.{flat_map}
 use Rattle.std.specs.FinMap as map
-use Rattle.rising.specs.Rising.{has, sorted}
-use Rattle.rising.proofs.Bools.{and_none, or_true}
-use Rattle.rising.proofs.Rising.{IsRising-sorted, has-append, has-sorted, sorted_same}
+use Rattle.sorted_sets.specs.Rising.{has, sorted}
+use Rattle.sorted_sets.proofs.Bools.{and_none, or_true}
+use Rattle.sorted_sets.proofs.Rising.{IsRising-sorted, has-append, has-sorted, sorted_same}
 use Rattle.rdf_term.specs.declared.triple.Triple.{Triple}
 use Rattle.rdf_term.specs.declared.term.Term.{Term}
 use Rattle.rdf_term.specs.Order.{term_cmp, term_cmp-total, triple_cmp}

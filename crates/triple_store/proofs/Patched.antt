@@ -2,9 +2,9 @@
 use Rattle.std.proofs.Common.{◌≡◌, ℕ, ◌+◌, ◌-◌, ◌<◌, true, false, ◌||◌, List, [], ◌∷◌, length, take, get_or, refl, sym, ◌∙◌, ap, subst, arith}
 use Rattle.std.specs.List.{flat_map}
 use Rattle.std.proofs.lemmas.List.{take_more}
-use Rattle.rising.specs.Rising.{IsRising, has}
-use Rattle.rising.proofs.Bools.{equal, or_none}
-use Rattle.rising.proofs.Rising.{has-append}
+use Rattle.sorted_sets.specs.Rising.{IsRising, has}
+use Rattle.sorted_sets.proofs.Bools.{equal, or_none}
+use Rattle.sorted_sets.proofs.Rising.{has-append}
 use Rattle.rdf_term.specs.declared.triple.Triple.{Triple}
 use Rattle.rdf_term.specs.Order.{triple_cmp, triple_cmp-total}
 use Rattle.rdf_term.proofs.Texts.{triple_cmp-IsAntisymmetric}

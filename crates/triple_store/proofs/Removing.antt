@@ -1,9 +1,9 @@
 -- Keys of a rising list whose triples lose an owner, one by one.
 use Rattle.std.proofs.Common.{◌≡◌, ℕ, ◌+◌, ◌-◌, ◌<◌, Bool, true, false, not, ◌||◌, ◌&&◌, List, [], ◌∷◌, ◌++◌, length, take, get_or, refl, sym, ◌∙◌, ap, subst, arith}
 use Rattle.std.specs.Prelude.{map as mapped}
-use Rattle.rising.specs.Rising.{has, IsRising, difference}
-use Rattle.rising.proofs.Bools.{and_none, and_right, clash, equal, or_none, or_assoc}
-use Rattle.rising.proofs.Filtering.{has-difference}
+use Rattle.sorted_sets.specs.Rising.{has, IsRising, difference}
+use Rattle.sorted_sets.proofs.Bools.{and_none, and_right, clash, equal, or_none, or_assoc}
+use Rattle.sorted_sets.proofs.Filtering.{has-difference}
 use Rattle.rdf_term.specs.declared.triple.Triple.{Triple}
 use Rattle.rdf_term.specs.Order.{triple_cmp}
 use Rattle.rdf_term.proofs.Texts.{triple_cmp-IsAntisymmetric}

@@ -5,9 +5,9 @@ use Rattle.std.specs.FinMap as map
 use Rattle.std.specs.Map.{keys_of}
 use Rattle.std.specs.Ordering.{eq_by_cmp}
 use Rattle.std.proofs.lemmas.Map.Made.{is_some-lookup}
-use Rattle.rising.specs.Rising.{has}
-use Rattle.rising.proofs.Bools.{equal, or_true}
-use Rattle.rising.proofs.Rising.{has_itself}
+use Rattle.sorted_sets.specs.Rising.{has}
+use Rattle.sorted_sets.proofs.Bools.{equal, or_true}
+use Rattle.sorted_sets.proofs.Rising.{has_itself}
 use Rattle.rdf_term.specs.declared.triple.Triple.{Triple}
 use Rattle.rdf_term.specs.Order.{triple_cmp, triple_cmp-total}
 use Rattle.rdf_term.specs.Undo.{undo}

@@ -4,9 +4,9 @@ use Rattle.std.specs.FinMap as map
 use Rattle.std.proofs.lemmas.Bool.{cases_eq, cases_lt}
 use Rattle.std.proofs.lemmas.List.Sums.{sum_by-cons}
 use Rattle.std.proofs.lemmas.Cmp.{tied_itself}
-use Rattle.rising.specs.Rising.{has}
-use Rattle.rising.proofs.Bools.{or_true}
-use Rattle.rising.proofs.Rising.{has_itself}
+use Rattle.sorted_sets.specs.Rising.{has}
+use Rattle.sorted_sets.proofs.Bools.{or_true}
+use Rattle.sorted_sets.proofs.Rising.{has_itself}
 use Rattle.rdf_term.specs.declared.triple.Triple.{Triple}
 use Rattle.rdf_term.specs.declared.term.Term.{Term}
 use Rattle.rdf_term.specs.Order.{term_cmp}

@@ -4,9 +4,9 @@ use Rattle.std.specs.Cmp.{IsTotalOrder}
 use Rattle.std.specs.Ordering.{eq_by_cmp}
 use Rattle.std.proofs.Math.Seq.{take-length}
 use Rattle.std.proofs.lemmas.Cmp.{tied_itself}
-use Rattle.rising.specs.Rising.{has}
-use Rattle.rising.proofs.Bools.{clash, equal, or_none, or_true}
-use Rattle.rising.proofs.Rising.{has-append}
+use Rattle.sorted_sets.specs.Rising.{has}
+use Rattle.sorted_sets.proofs.Bools.{clash, equal, or_none, or_true}
+use Rattle.sorted_sets.proofs.Rising.{has-append}
 use Rattle.rdf_term.specs.declared.triple.Triple.{Triple}
 use Rattle.rdf_term.specs.Order.{triple_cmp, triple_cmp-total}
 use Rattle.rdf_term.proofs.Texts.{triple_cmp-IsAntisymmetric}

@@ -8,9 +8,9 @@ use Rattle.std.specs.Ordering.{eq_by_cmp}
 use Rattle.std.specs.List.{list_any}
 use Rattle.std.proofs.lemmas.List.{length-map}
 use Rattle.std.proofs.lemmas.List.Sums.{sum_by-cons}
-use Rattle.rising.specs.Rising.{IsRising, has, sorted}
-use Rattle.rising.proofs.Bools.{clash, equal, or_true}
-use Rattle.rising.proofs.Rising.{has-above, has_itself, sorted_rising, sorted_same}
+use Rattle.sorted_sets.specs.Rising.{IsRising, has, sorted}
+use Rattle.sorted_sets.proofs.Bools.{clash, equal, or_true}
+use Rattle.sorted_sets.proofs.Rising.{has-above, has_itself, sorted_rising, sorted_same}
 use Rattle.rdf_term.specs.declared.triple.Triple.{Triple}
 use Rattle.rdf_term.specs.Order.{triple_cmp, triple_cmp-total}
 use Rattle.rdf_term.proofs.Texts.{triple_cmp-IsAntisymmetric}

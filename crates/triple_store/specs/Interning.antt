@@ -1,6 +1,6 @@
 -- What it is to use the terms of a triple once more or once less.
 use Rattle.std.specs.Prelude.{◌≡◌, ℕ, ◌+◌, ◌-◌, ◌<◌, true, List, Option, Some, IfSome, slice_get}
-use Rattle.rising.specs.Rising.{has}
+use Rattle.sorted_sets.specs.Rising.{has}
 use Rattle.rdf_term.specs.declared.term.Term.{Term}
 use Rattle.rdf_term.specs.Order.{term_cmp}
 use Rattle.rdf_term.specs.Undo.{undo}

@@ -1,7 +1,7 @@
 -- What a store has after triples of one owner came or went.
 use Rattle.std.specs.Prelude.{◌≡◌, ◌+◌, true, not, ◌&&◌, List}
 use Rattle.std.specs.Prelude.{map as mapped}
-use Rattle.rising.specs.Rising.{has}
+use Rattle.sorted_sets.specs.Rising.{has}
 use Rattle.rdf_term.specs.declared.triple.Triple.{Triple}
 use Rattle.rdf_term.specs.Order.{triple_cmp}
 use Rattle.text_region.specs.declared.piece.Piece.{Piece}

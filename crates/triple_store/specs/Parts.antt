@@ -1,6 +1,6 @@
 -- The keys of a part of what an owner has: one key may stand in two parts.
 use Rattle.std.specs.Prelude.{◌≡◌, true, List}
-use Rattle.rising.specs.Rising.{has}
+use Rattle.sorted_sets.specs.Rising.{has}
 use Rattle.rdf_term.specs.declared.triple.Triple.{Triple}
 use Rattle.rdf_term.specs.Order.{triple_cmp}
 use Rattle.text_region.specs.Region.{Texts}

@@ -1,7 +1,7 @@
 -- Triples of slots, and the triples that they stand for in a pool and the region of its texts.
 use Rattle.std.specs.Prelude.{◌≡◌, ℕ, ◌+◌, ◌==◌, true, List, [], Option, None, Some, sum_by}
 use Rattle.std.specs.FinMap as map
-use Rattle.rising.specs.Rising.{has}
+use Rattle.sorted_sets.specs.Rising.{has}
 use Rattle.rdf_term.specs.declared.term.Term.{Term}
 use Rattle.rdf_term.specs.declared.term.Term.TheVariants.{Blank}
 use Rattle.rdf_term.specs.declared.triple.Triple.{Triple}

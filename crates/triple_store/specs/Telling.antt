@@ -2,7 +2,7 @@
 use Rattle.std.specs.Prelude.{◌≡◌, ℕ, ◌==◌, Option, None, Some, List, length, filter}
 use Rattle.std.specs.FinMap as map
 use Rattle.std.specs.List.{flat_map}
-use Rattle.rising.specs.Rising.{difference}
+use Rattle.sorted_sets.specs.Rising.{difference}
 use Rattle.rdf_term.specs.declared.triple.Triple.{Triple}
 use Rattle.rdf_term.specs.Order.{triple_cmp}
 use Rattle.rdf_term.specs.Text.{triple_text}

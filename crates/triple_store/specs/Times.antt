@@ -1,7 +1,7 @@
 -- How many times each triple of an owner comes: several parts of what it has may give one triple.
 use Rattle.std.specs.Prelude.{◌≡◌, ◌+◌, ◌<◌, ◌≤◌, false, ℕ, List, length, get_or, count_by}
 use Rattle.std.specs.Ordering.{eq_by_cmp}
-use Rattle.rising.specs.Rising.{has}
+use Rattle.sorted_sets.specs.Rising.{has}
 use Rattle.rdf_term.specs.declared.triple.Triple.{Triple}
 use Rattle.rdf_term.specs.Order.{triple_cmp}
 use Rattle.text_region.specs.Region.{Texts}

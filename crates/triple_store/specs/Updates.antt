@@ -1,7 +1,7 @@
 -- What the calls of a store that change the owners of triples ask for, and what they do.
 use Rattle.std.specs.Prelude.{◌≡◌, ℕ, ◌<◌, ◌≤◌, true, List, [], length, Option, Result, Err, IfOk, IsOk, OnErr, OnOk}
 use Rattle.std.specs.List.{AllByRecursion}
-use Rattle.rising.specs.Rising.{IsRising, has}
+use Rattle.sorted_sets.specs.Rising.{IsRising, has}
 use Rattle.base.specs.declared.memory.OutOfMemory.{OutOfMemory}
 use Rattle.rdf_term.specs.declared.triple.Triple.{Triple}
 use Rattle.rdf_term.specs.Fit.{HasFitAndShortTerms}

@@ -1,7 +1,7 @@
 // Where the keys of the triples that come are found.
 
 ghost use Rattle.std.specs.Prelude.{◌≡◌, ◌<◌, true, false, length, Some, IfSome, IfErr, IfOk};
-ghost use Rattle.rising.specs.Rising.{IsRising, has};
+ghost use Rattle.sorted_sets.specs.Rising.{IsRising, has};
 ghost use Rattle.term_pool.specs.Pool.{LiesIn, text_in_slot};
 ghost use Rattle.slot_keys.specs.{declared.key.Key.Key as TheKey, Added.is_held, Keys.key_cmp};
 ghost use Rattle.triple_store.specs.{Interning.AreHints, Interning.IsOfSubject, Interning.IsOfTripleBefore, Slots.HasTexts};

@@ -3,7 +3,7 @@
 
 ghost use Rattle.std.specs.Prelude.{◌≡◌, ◌+◌, ◌*◌, ◌^◌, ◌<◌, ◌≤◌, ℕ, List, length, IfOk};
 ghost use Rattle.std.specs.FinMap as map;
-ghost use Rattle.rising.specs.Rising.{sorted};
+ghost use Rattle.sorted_sets.specs.Rising.{sorted};
 ghost use Rattle.comparison_steps.specs.Steps.{WithinSteps};
 ghost use Rattle.rdf_term.specs.{declared.triple.Triple.Triple as TheTriple, Order.triple_cmp, Pattern.rows};
 ghost use Rattle.triple_store.specs.{Counts.count_of, StoreState.AreKeysOf, StoreState.counts_in, Updates.AreStored};

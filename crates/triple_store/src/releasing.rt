@@ -2,7 +2,7 @@
 
 ghost use Rattle.std.specs.Prelude.{◌≡◌, ◌+◌, true, List, [], length, IfOk, IsOk, OnOk, OnErr};
 ghost use Rattle.std.specs.FinMap as map;
-ghost use Rattle.rising.specs.Rising.{IsRising, difference, has};
+ghost use Rattle.sorted_sets.specs.Rising.{IsRising, difference, has};
 ghost use Rattle.rdf_term.specs.declared.triple.Triple.{Triple};
 ghost use Rattle.text_region.specs.declared.piece.Piece.{Piece as ThePiece};
 ghost use Rattle.slot_keys.specs.{declared.key.Key.Key as TheKey, Keys.key_cmp};

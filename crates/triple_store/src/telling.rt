@@ -2,7 +2,7 @@
 
 ghost use Rattle.std.specs.Prelude.{◌≡◌, ◌+◌, true, length, IfOk, IsOk};
 ghost use Rattle.std.specs.FinMap as map;
-ghost use Rattle.rising.specs.Rising.{IsRising, has, sorted};
+ghost use Rattle.sorted_sets.specs.Rising.{IsRising, has, sorted};
 ghost use Rattle.rdf_term.specs.Order.{triple_cmp};
 ghost use Rattle.slot_keys.specs.{declared.key.Key.Key as TheKey, Keys.key_cmp};
 ghost use Rattle.triple_store.specs.{Costs.Costs, Moves.triples_at, Stored.IsStored, Stored.is_key};

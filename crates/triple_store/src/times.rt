@@ -1,7 +1,7 @@
 // How many times each triple of one owner comes.
 
 ghost use Rattle.std.specs.Prelude.{◌≡◌, ◌<◌, true, length, get_or, Some, IfSome};
-ghost use Rattle.rising.specs.Rising.{IsRising, has};
+ghost use Rattle.sorted_sets.specs.Rising.{IsRising, has};
 ghost use Rattle.slot_keys.specs.{declared.key.Key.Key as TheKey, Keys.key_cmp};
 ghost use Rattle.triple_store.specs.{Slots.HasTexts, Stored.IsStored, Stored.is_key, Times.AddTimes};
 

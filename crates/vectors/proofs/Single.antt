@@ -1,7 +1,7 @@
 -- The set of one triple has no other.
 use Rattle.std.proofs.Common.{◌≡◌, true, List, [], ◌∷◌, inl, inr, sym, ap, ◌∙◌, subst}
-use Rattle.rising.specs.Rising.{In, has}
-use Rattle.rising.proofs.Members.{member-has}
+use Rattle.sorted_sets.specs.Rising.{In, has}
+use Rattle.sorted_sets.proofs.Members.{member-has}
 use Rattle.rdf_term.specs.declared.triple.Triple.{Triple}
 use Rattle.rdf_term.specs.Order.{triple_cmp}
 use Rattle.rdf_term.proofs.Texts.{triple_cmp-IsAntisymmetric}

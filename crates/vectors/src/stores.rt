@@ -1,7 +1,7 @@
 // A store whose triples get owners and lose them, and that fills up.
 
 ghost use Rattle.std.specs.Prelude.{◌≡◌, ◌<◌, true, [], ◌∷◌, IfSome};
-ghost use Rattle.rising.specs.Rising.{has};
+ghost use Rattle.sorted_sets.specs.Rising.{has};
 ghost use Rattle.rdf_term.specs.{declared.triple.Triple.Triple as TheTriple, Fit.HasFitAndShortTerms, Fit.IsFitAndShort, Order.triple_cmp};
 ghost use Rattle.triple_store.specs.{Counts.count_of, StoreState.counts_in};
 

@@ -4,11 +4,11 @@ use Rattle.std.specs.BTreeSet.{insert_key}
 use Rattle.std.specs.FinMap as map
 use Rattle.std.specs.Ordering.{eq_by_cmp}
 use Rattle.std.specs.Set.{remove_key}
-use Rattle.rising.specs.Rising.{IsRising, has}
-use Rattle.rising.proofs.Bools.{or_true}
-use Rattle.rising.proofs.Filtering.{IsRising-filter, has-filter}
-use Rattle.rising.proofs.FirstPassing.{IsRising-remove_key}
-use Rattle.rising.proofs.Rising.{IsRising-insert_key, has-insert_key, has_itself, same_rising}
+use Rattle.sorted_sets.specs.Rising.{IsRising, has}
+use Rattle.sorted_sets.proofs.Bools.{or_true}
+use Rattle.sorted_sets.proofs.Filtering.{IsRising-filter, has-filter}
+use Rattle.sorted_sets.proofs.FirstPassing.{IsRising-remove_key}
+use Rattle.sorted_sets.proofs.Rising.{IsRising-insert_key, has-insert_key, has_itself, same_rising}
 use Rattle.std.specs.Cmp.{eq_by_cmp_equiv}
 use Rattle.entity_model.specs.declared.id.EntityId.{EntityId}
 use Rattle.entity_model.specs.declared.mapping.MappingVersion.{MappingVersion}

@@ -1,10 +1,10 @@
 -- What a step tells is the change of the union.
 use Rattle.std.proofs.Common.{◌≡◌, ◌↔◌, Bool, true, false, not, ◌&&◌, List, [], ◌∷◌, length, Option, Some, None, refl, sym, ◌∙◌, ap, subst, arith}
 use Rattle.std.specs.FinMap as map
-use Rattle.rising.specs.Rising.{IsRising, difference, has}
-use Rattle.rising.proofs.Bools.{clash}
-use Rattle.rising.proofs.Filtering.{has-difference}
-use Rattle.rising.proofs.Rising.{has_itself, same_rising}
+use Rattle.sorted_sets.specs.Rising.{IsRising, difference, has}
+use Rattle.sorted_sets.proofs.Bools.{clash}
+use Rattle.sorted_sets.proofs.Filtering.{has-difference}
+use Rattle.sorted_sets.proofs.Rising.{has_itself, same_rising}
 use Rattle.rdf_term.specs.declared.triple.Triple.{Triple}
 use Rattle.rdf_term.specs.Order.{triple_cmp, triple_cmp-total}
 use Rattle.rdf_term.proofs.Texts.{triple_cmp-IsAntisymmetric}

@@ -1,8 +1,8 @@
 -- The triples of a page came in the place of those that its entity had.
 use Rattle.std.proofs.Common.{◌≡◌, ℕ, ◌+◌, ◌<◌, ◌≤◌, Bool, true, false, List, [], Option, Some, None, cond, length, is_some, unwrap_or, refl, sym, ◌∙◌, ap, subst, true≢false, arith}
 use Rattle.std.specs.Prelude.{IfSome, option_map}
-use Rattle.rising.specs.Rising.{has}
-use Rattle.rising.proofs.Rising.{has-sorted}
+use Rattle.sorted_sets.specs.Rising.{has}
+use Rattle.sorted_sets.proofs.Rising.{has-sorted}
 use Rattle.rdf_term.specs.declared.triple.Triple.{Triple}
 use Rattle.rdf_term.specs.Order.{triple_cmp, triple_cmp-total}
 use Rattle.entity_json.specs.Document.{document_of}

@@ -1,7 +1,7 @@
 -- The region has the texts of the stored terms and the held pages, and nothing else.
 use Rattle.std.proofs.Common.{◌≡◌, inl, inr, true, List, [], Option, Some, None, is_some, unwrap_or, refl, sym, ◌∙◌, ap, subst, true≢false, ⊎_elim}
 use Rattle.std.specs.List.{flat_map}
-use Rattle.rising.specs.Rising.{has}
+use Rattle.sorted_sets.specs.Rising.{has}
 use Rattle.rdf_term.specs.declared.term.Term.{Term}
 use Rattle.rdf_term.specs.declared.triple.Triple.{Triple}
 use Rattle.rdf_term.specs.Order.{term_cmp}

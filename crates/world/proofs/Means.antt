@@ -1,7 +1,7 @@
 -- What bytes mean is what the rules say, from end to end.
 use Rattle.std.proofs.Common.{◌≡◌, ℕ, List, Option, Some, None, refl, sym, subst}
 use Rattle.std.specs.Prelude.{◌↔◌}
-use Rattle.rising.specs.Rising.{In}
+use Rattle.sorted_sets.specs.Rising.{In}
 use Rattle.rdf_term.specs.declared.triple.Triple.{Triple}
 use Rattle.entity_model.specs.declared.id.EntityId.{EntityId}
 use Rattle.entity_model.specs.declared.document.Document.{Document}

@@ -1,7 +1,7 @@
 -- The triples of what one entity holds, by their keys.
 use Rattle.std.proofs.Common.{◌≡◌, ℕ, List, Option, Some, None, flat_map, refl, sym, ◌∙◌, ap, subst}
-use Rattle.rising.specs.Rising.{sorted}
-use Rattle.rising.proofs.Rising.{IsRising-sorted, sorted_rising}
+use Rattle.sorted_sets.specs.Rising.{sorted}
+use Rattle.sorted_sets.proofs.Rising.{IsRising-sorted, sorted_rising}
 use Rattle.rdf_term.specs.declared.triple.Triple.{Triple}
 use Rattle.rdf_term.specs.Order.{triple_cmp, triple_cmp-total}
 use Rattle.rdf_term.proofs.Texts.{triple_cmp-IsAntisymmetric}

@@ -3,8 +3,8 @@ use Rattle.std.proofs.Common.{◌≡◌, ◌≢◌, ℕ, ◌+◌, ◌<◌, ◌�
 use Rattle.std.specs.FinMap as map
 use Rattle.std.specs.Ordering.{eq_by_cmp}
 use Rattle.std.proofs.lemmas.List.Sums.{count_by-le-length}
-use Rattle.rising.specs.Rising.{has, difference}
-use Rattle.rising.proofs.Filtering.{has-difference}
+use Rattle.sorted_sets.specs.Rising.{has, difference}
+use Rattle.sorted_sets.proofs.Filtering.{has-difference}
 use Rattle.rdf_term.specs.declared.triple.Triple.{Triple}
 use Rattle.rdf_term.specs.Order.{triple_cmp, triple_cmp-total}
 use Rattle.entity_model.specs.declared.id.EntityId.{EntityId}

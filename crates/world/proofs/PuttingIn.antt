@@ -20,7 +20,7 @@ use Rattle.replay_model.specs.Replies.{HoldsDocument}
 use Rattle.replay_model.specs.Versions.{all_by}
 use Rattle.replay_model.proofs.Settled.{settled_by, told_by}
 use Rattle.replay_model.proofs.Versions.{all-drop, all-put}
-use Rattle.rising.proofs.Bools.{clash, equal}
+use Rattle.sorted_sets.proofs.Bools.{clash, equal}
 use Rattle.entity_state.specs.Table.{has_room}
 use Rattle.entity_state.specs.Tabled.{Tabled}
 use Rattle.triple_store.specs.StoreState.{StoreState, beside}

@@ -3,9 +3,9 @@ use Rattle.std.proofs.Common.{◌≡◌, ℕ, ◌<◌, ◌≤◌, Bool, true, fa
 use Rattle.std.specs.List.{flat_map, list_any}
 use Rattle.std.specs.FinMap as map
 use Rattle.std.proofs.lemmas.List.{length-map}
-use Rattle.rising.specs.Rising.{has, sorted}
-use Rattle.rising.proofs.Finding.{list_any-sorted}
-use Rattle.rising.proofs.Rising.{has-append, same_rising, sorted_same}
+use Rattle.sorted_sets.specs.Rising.{has, sorted}
+use Rattle.sorted_sets.proofs.Finding.{list_any-sorted}
+use Rattle.sorted_sets.proofs.Rising.{has-append, same_rising, sorted_same}
 use Rattle.rdf_term.specs.declared.term.Term.{Term}
 use Rattle.rdf_term.specs.declared.triple.Triple.{Triple}
 use Rattle.rdf_term.specs.Order.{term_cmp, term_cmp-total, triple_cmp, triple_cmp-total}

@@ -1,6 +1,6 @@
 -- What a step changed of the stored triples.
 use Rattle.std.specs.Prelude.{◌≡◌, List, Option, None, Some}
-use Rattle.rising.specs.Rising.{difference}
+use Rattle.sorted_sets.specs.Rising.{difference}
 use Rattle.rdf_term.specs.declared.triple.Triple.{Triple}
 use Rattle.rdf_term.specs.Order.{triple_cmp}
 use Rattle.entity_model.specs.declared.id.EntityId.{EntityId}

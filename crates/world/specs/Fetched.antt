@@ -1,7 +1,7 @@
 -- What a fetch brings: a document's bytes with the triples that they mean, or why there is no document.
 use Rattle.std.specs.Prelude.{◌≡◌, ℕ, ◌≤◌, List, Option, None, Some, IfSome, Result, Ok, Err, ⊤, length}
 use Rattle.std.specs.List.{AllByRecursion}
-use Rattle.rising.specs.Rising.{has, sorted}
+use Rattle.sorted_sets.specs.Rising.{has, sorted}
 use Rattle.rdf_term.specs.declared.triple.Triple.{Triple}
 use Rattle.rdf_term.specs.Fit.{HasFitAndShortTerms}
 use Rattle.rdf_term.specs.Order.{triple_cmp}

@@ -1,7 +1,7 @@
 -- What lies in the region: the texts of the terms of all that is held, each once, and the held pages, and nothing else.
 use Rattle.std.specs.Prelude.{◌≡◌, ℕ, true, List, Option, Some, is_some, ◌⊎◌}
 use Rattle.std.specs.List.{flat_map}
-use Rattle.rising.specs.Rising.{has}
+use Rattle.sorted_sets.specs.Rising.{has}
 use Rattle.rdf_term.specs.declared.term.Term.{Term}
 use Rattle.rdf_term.specs.declared.triple.Triple.{Triple}
 use Rattle.rdf_term.specs.Order.{term_cmp, triple_cmp}

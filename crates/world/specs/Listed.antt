@@ -1,6 +1,6 @@
 -- The triples that are kept of a page as a list, and the counts that the page has of itself.
 use Rattle.std.specs.Prelude.{◌≡◌, ℕ, List, Option, None, Some, IfSome}
-use Rattle.rising.specs.Rising.{sorted}
+use Rattle.sorted_sets.specs.Rising.{sorted}
 use Rattle.rdf_term.specs.declared.triple.Triple.{Triple}
 use Rattle.rdf_term.specs.Order.{triple_cmp}
 use Rattle.entity_json.specs.Document.{document_of}

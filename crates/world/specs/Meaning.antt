@@ -1,6 +1,6 @@
 -- The triples that a page means by a version of the mapping: those of its document's dump, munged.
 use Rattle.std.specs.Prelude.{ℕ, List, [], Option, None, Some}
-use Rattle.rising.specs.Rising.{sorted}
+use Rattle.sorted_sets.specs.Rising.{sorted}
 use Rattle.rdf_term.specs.declared.triple.Triple.{Triple}
 use Rattle.rdf_term.specs.Order.{triple_cmp}
 use Rattle.entity_model.specs.declared.id.EntityId.{EntityId}

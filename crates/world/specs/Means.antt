@@ -1,6 +1,6 @@
 -- What the bytes of a page mean, from end to end: by the document that they are, the rules of the dump, and munging.
 use Rattle.std.specs.Prelude.{ℕ, List}
-use Rattle.rising.specs.Rising.{In}
+use Rattle.sorted_sets.specs.Rising.{In}
 use Rattle.rdf_term.specs.declared.triple.Triple.{Triple}
 use Rattle.entity_model.specs.declared.id.EntityId.{EntityId}
 use Rattle.entity_model.specs.declared.document.Document.{Document}

@@ -1,6 +1,6 @@
 -- What contracts see of a world, and what becomes of the versions by which its documents are mapped.
 use Rattle.std.specs.Prelude.{◌≡◌, ℕ, Bool, true, false, cond, List, [], ◌∷◌, Option, None, Some, filter}
-use Rattle.rising.specs.Rising.{has, IsRising}
+use Rattle.sorted_sets.specs.Rising.{has, IsRising}
 use Rattle.rdf_term.specs.declared.triple.Triple.{Triple}
 use Rattle.rdf_term.specs.Order.{triple_cmp}
 use Rattle.entity_model.specs.declared.id.EntityId.{EntityId}

@@ -2,7 +2,7 @@
 
 ghost use Rattle.std.specs.Prelude.{◌≡◌, ◌≤◌, List, None, Some, IfErr, IfOk, IfSome, length, option_copied, option_map};
 ghost use Rattle.std.specs.List.{AllByRecursion};
-ghost use Rattle.rising.specs.Rising.{sorted};
+ghost use Rattle.sorted_sets.specs.Rising.{sorted};
 ghost use Rattle.rdf_term.specs.{Fit.HasFitAndShortTerms, Order.triple_cmp};
 ghost use Rattle.entity_model.specs.{Document.IsDocumentOf, Document.IsSmall, declared.id.EntityId.EntityId as TheId};
 ghost use Rattle.entity_json.specs.Document.{document_of, unfit_of};

@@ -1,7 +1,7 @@
 // The entities that hold a page, by the version of the mapping that it is mapped by.
 
 ghost use Rattle.std.specs.Prelude.{◌≡◌, [], not, length, if◌then◌else◌, IfOk, OnErr, OnOk};
-ghost use Rattle.rising.specs.Rising.{has};
+ghost use Rattle.sorted_sets.specs.Rising.{has};
 ghost use Rattle.entity_model.specs.EntityId.{entity_cmp};
 ghost use Rattle.world.specs.{Holders.held_by, Holders.other_version, Holders.with_holder, Holders.without_holder, WorldState.first_of};
 

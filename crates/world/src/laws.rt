@@ -2,7 +2,7 @@
 // contract of a function that does nothing.
 
 ghost use Rattle.std.specs.Prelude.{◌≡◌, ◌↔◌, ℕ, List, Option};
-ghost use Rattle.rising.specs.Rising.{In, IsRising};
+ghost use Rattle.sorted_sets.specs.Rising.{In, IsRising};
 ghost use Rattle.rdf_term.specs.{declared.triple.Triple.Triple, Order.triple_cmp};
 ghost use Rattle.entity_model.specs.{declared.id.EntityId.EntityId, declared.mapping.MappingVersion.MappingVersion};
 ghost use Rattle.revisions.specs.Revisions.{Contents};

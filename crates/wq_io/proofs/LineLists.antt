@@ -1,7 +1,7 @@
 -- Lines of lists that are put together.
 use Rattle.std.proofs.Common.{refl, ◌≡◌, ℕ, zero, suc, Bool, true, false, ◌||◌, ◌==◌, List, [], ◌∷◌, ◌++◌, take, ◌∙◌, ap, append_assoc}
 use Rattle.std.specs.List.{list_any}
-use Rattle.rising.specs.Rising.{Each}
+use Rattle.sorted_sets.specs.Rising.{Each}
 use Rattle.wq_io.specs.Lines.{IsOneLine, ended_lines, line_feed, lines, whole_lines}
 
 -- the first byte is no line feed, and the rest is one line

@@ -1,6 +1,6 @@
 -- Both maps were read, no name comes twice in either, and each is told less the members that both have.
 use Rattle.std.proofs.Common.{◌≡◌, map, Some, rules}
-use Rattle.rising.specs.Merging.{Changes}
+use Rattle.sorted_sets.specs.Merging.{Changes}
 use Rattle.std.specs.List.{All}
 use Rattle.json_spell.specs.declared.json.Json.{the_lemmas}
 use Rattle.json_spell.specs.Tree.{no_pairs}

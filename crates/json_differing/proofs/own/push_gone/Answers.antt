@@ -1,6 +1,6 @@
 -- One more is gone.
 use Rattle.std.proofs.Common.{◌+◌, ◌<◌, length, List, map, take, sym, subst, arith}
-use Rattle.rising.specs.Merging.{Merges}
+use Rattle.sorted_sets.specs.Merging.{Merges}
 use Rattle.json_differing.specs.declared.spelled.Spelled.{Spelled}
 use Rattle.json_differing.specs.Spelled.{spelled_view}
 use Rattle.json_differing.proofs.Owning.{gone_more, views}

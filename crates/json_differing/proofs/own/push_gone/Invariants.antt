@@ -1,6 +1,6 @@
 -- The members up to the index are gone.
 use Rattle.std.proofs.Common.{map, take}
-use Rattle.rising.specs.Merging.{Merges}
+use Rattle.sorted_sets.specs.Merging.{Merges}
 use Rattle.json_differing.specs.Differing.{Members}
 use Rattle.json_differing.specs.Spelled.{spelled_view}
 use Rattle.json_differing.proofs.own.push_gone.Given as goal

@@ -2,7 +2,7 @@
 use Rattle.entity_state.specs.State.{unknown}
 use Rattle.entity_model.specs.Event.{event_cmp, event_cmp_same}
 use Rattle.std.proofs.Common.{◌∙◌}
-use Rattle.rising.proofs.Finding.{list_any-sorted}
+use Rattle.sorted_sets.proofs.Finding.{list_any-sorted}
 use Rattle.replay_model.specs.Entries.{is_later}
 use Rattle.replay_model.specs.Fate.{in_order}
 use Rattle.replay_model.proofs.Known.{place_below}

@@ -1,7 +1,7 @@
 -- An entry of the records is an entry of one part's, and the sums over entries and parts go in either order.
 use Rattle.std.proofs.Common.{◌≡◌, Bool, true, false, not, ◌||◌, ◌∷◌, [], refl, ◌∙◌, ap}
-use Rattle.rising.specs.Rising.{has}
-use Rattle.rising.proofs.Bools.{or_none}
+use Rattle.sorted_sets.specs.Rising.{has}
+use Rattle.sorted_sets.proofs.Bools.{or_none}
 use Rattle.replay_parts.specs.Parts.{part_of_records}
 use Rattle.replay_model.specs.Union.{union}
 use Rattle.replay_parts.proofs.UnionParts.{has-parts, union-parts, owners-parts, has-numbered}

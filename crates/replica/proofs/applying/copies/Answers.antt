@@ -1,7 +1,7 @@
 -- Some of a rising list rise.
 use Rattle.std.proofs.Common.{◌≡◌, arith, take}
 use Rattle.std.proofs.lemmas.List.{take_all}
-use Rattle.rising.proofs.Filtering.{IsRising-filter}
+use Rattle.sorted_sets.proofs.Filtering.{IsRising-filter}
 use Rattle.rdf_term.specs.Order.{triple_cmp}
 use Rattle.replica.proofs.applying.copies.Goals as goal
 

@@ -1,6 +1,6 @@
 -- By binary search.
 use Rattle.std.proofs.Common.{◌∙◌}
-use Rattle.rising.proofs.Sorting.{found}
+use Rattle.sorted_sets.proofs.Sorting.{found}
 use Rattle.rdf_term.specs.Order.{triple_cmp-total}
 use Rattle.replica.proofs.reader.has_triple.Goals as goal
 

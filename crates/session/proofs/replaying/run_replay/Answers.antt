@@ -1,7 +1,7 @@
 -- A replay that was started ends as it was played; one that wasn't ends with the cause.
 use Rattle.std.proofs.Common.{Some, ap, inl, inr, refl, sym, subst, ◌∙◌}
 use Rattle.following.specs.Input.{input}
-use Rattle.words.specs.Options.{max_bytes_of}
+use Rattle.arguments.specs.Options.{max_bytes_of}
 use Rattle.session.specs.Moment.{moment, run_of, world_at_start}
 use Rattle.world.specs.WorldState.{WorldState}
 use Rattle.session.proofs.Ongoing.{gone_twice, resumed_on}

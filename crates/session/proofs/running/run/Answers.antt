@@ -1,6 +1,6 @@
 -- What a replay, a drill and a follower leave, by the plan that was read.
 use Rattle.std.proofs.Common.{◌≡◌, ◌⊎◌, ◌∙◌, sym, ap, Some, inr, refl, subst}
-use Rattle.words.specs.declared.plan.Plan.TheVariants.{Replay, Drill, Patches, Follow, Split}
+use Rattle.arguments.specs.declared.plan.Plan.TheVariants.{Replay, Drill, Patches, Follow, Split}
 use Rattle.following.specs.Following.{follow_moment}
 use Rattle.session.specs.Plans.{DrillEnding, IsRunOf, MaySave, limit_of_plan, FollowEnding}
 use Rattle.session.specs.Moment.{Run, moment, run_of, stage}

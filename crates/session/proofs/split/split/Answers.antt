@@ -1,6 +1,6 @@
 -- Where memory is refused before the first line, the world is that at the start, or as it was.
 use Rattle.std.proofs.Common.{Some, inl, inr, refl}
-use Rattle.words.specs.Options.{max_bytes_of}
+use Rattle.arguments.specs.Options.{max_bytes_of}
 use Rattle.checkpoint.specs.declared.fault.LoadFault.TheVariants.{OutOfMemory}
 use Rattle.session.specs.declared.report.Report.TheVariants.{Answers}
 use Rattle.session.specs.Moment.{moment, run_of, world_at_start}

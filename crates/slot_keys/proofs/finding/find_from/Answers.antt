@@ -1,4 +1,4 @@
-use Rattle.rising.proofs.Sorting.{found}
+use Rattle.sorted_sets.proofs.Sorting.{found}
 use Rattle.slot_keys.specs.Keys.{key_cmp-total}
 use Rattle.slot_keys.proofs.finding.find_from.Goals as goal
 

@@ -1,7 +1,7 @@
 -- What was met, and what is left.
 use Rattle.std.proofs.Common.{◌++◌, ap, length, map as mapped, not, sym, ◌∙◌}
-use Rattle.rising.specs.Rising.{has}
-use Rattle.rising.proofs.Rising.{IsRising-sorted}
+use Rattle.sorted_sets.specs.Rising.{has}
+use Rattle.sorted_sets.proofs.Rising.{IsRising-sorted}
 use Rattle.slot_keys.specs.Keys.{key_cmp, key_cmp-total}
 use Rattle.slot_keys.specs.Marks.{marked}
 use Rattle.slot_keys.proofs.Marked.{IsRising-marked}

@@ -2,7 +2,7 @@
 use Rattle.std.proofs.Common.{◌≡◌, ◌≢◌, ℕ, ◌<◌, ◌++◌, List, [], ◌∷◌, length, ap, refl, sym, ◌∙◌, arith}
 use Rattle.std.specs.Prelude.{map as mapped}
 use Rattle.std.proofs.lemmas.List.{length-replicate}
-use Rattle.rising.specs.Rising.{sorted}
+use Rattle.sorted_sets.specs.Rising.{sorted}
 use Rattle.slot_keys.specs.declared.key.Key.{Key}
 use Rattle.slot_keys.specs.Keys.{key_cmp}
 use Rattle.slot_keys.specs.KeyCounts.{count_beside, counted_keys}

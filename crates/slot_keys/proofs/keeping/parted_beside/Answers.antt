@@ -1,8 +1,8 @@
 -- What was met, and what is left, by marks.
 use Rattle.std.proofs.Common.{◌++◌, ap, length, ◌∙◌}
 use Rattle.std.proofs.lemmas.List.{length-map}
-use Rattle.rising.specs.Rising.{has, sorted}
-use Rattle.rising.proofs.Rising.{IsRising-sorted, has-sorted}
+use Rattle.sorted_sets.specs.Rising.{has, sorted}
+use Rattle.sorted_sets.proofs.Rising.{IsRising-sorted, has-sorted}
 use Rattle.slot_keys.specs.Keys.{key_cmp, key_cmp-total}
 use Rattle.slot_keys.specs.KeyCounts.{counted_keys}
 use Rattle.slot_keys.proofs.Staying.{beside_sorted}

@@ -1,6 +1,6 @@
 -- The keys that were met so far, beside those that are marked.
 use Rattle.std.proofs.Common.{◌≡◌, ◌++◌, length, take, true, false}
-use Rattle.rising.specs.Rising.{has}
+use Rattle.sorted_sets.specs.Rising.{has}
 use Rattle.slot_keys.specs.declared.key.Key.{Key}
 use Rattle.slot_keys.specs.Keys.{key_cmp}
 use Rattle.slot_keys.specs.Marks.{marked}

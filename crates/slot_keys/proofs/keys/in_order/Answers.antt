@@ -1,6 +1,6 @@
 use Rattle.std.proofs.Common.{subst, sym, ◌∙◌}
-use Rattle.rising.specs.Rising.{IsRising}
-use Rattle.rising.proofs.Rising.{IsRising-sorted}
+use Rattle.sorted_sets.specs.Rising.{IsRising}
+use Rattle.sorted_sets.proofs.Rising.{IsRising-sorted}
 use Rattle.slot_keys.specs.Keys.{key_cmp, key_cmp-total}
 use Rattle.slot_keys.proofs.keys.in_order.Goals as goal
 

@@ -2,8 +2,8 @@ use Rattle.std.proofs.Common.{◌≡◌, ◌++◌, ◌∙◌, sym, ap, true, len
 use Rattle.std.proofs.lemmas.Bool.Decides.{nat_tests}
 use Rattle.std.proofs.lemmas.List.{nil_from_length}
 use Rattle.std.proofs.lemmas.List.Filters.{dedup_is}
-use Rattle.rising.specs.Rising.{sorted}
-use Rattle.rising.proofs.Sorting.{deduped}
+use Rattle.sorted_sets.specs.Rising.{sorted}
+use Rattle.sorted_sets.proofs.Sorting.{deduped}
 use Rattle.slot_keys.specs.Keys.{key_cmp, key_cmp-total, key_cmp-IsAntisymmetric}
 use Rattle.slot_keys.specs.Marks.{marked}
 use Rattle.slot_keys.proofs.Marked.{kept_alone, kept_sorted}

@@ -1,6 +1,6 @@
 use Rattle.std.proofs.Common.{◌∙◌}
 use Rattle.std.proofs.lemmas.List.Filters.{dedup_is}
-use Rattle.rising.proofs.Sorting.{deduped}
+use Rattle.sorted_sets.proofs.Sorting.{deduped}
 use Rattle.slot_keys.specs.Keys.{key_cmp-total, key_cmp-IsAntisymmetric}
 use Rattle.slot_keys.proofs.keys.put_in_order.Goals as goal
 

@@ -1,5 +1,5 @@
 use Rattle.std.proofs.Common.{◌≡◌, ◌++◌, length, take}
-use Rattle.rising.specs.Rising.{has}
+use Rattle.sorted_sets.specs.Rising.{has}
 use Rattle.slot_keys.specs.declared.key.Key.{Key}
 use Rattle.slot_keys.specs.Keys.{key_cmp}
 use Rattle.slot_keys.specs.Marks.{marked}

@@ -1,6 +1,6 @@
 use Rattle.std.proofs.Common.{◌≡◌, ◌<◌, ◌≤◌, true, drop, length, refl, ◌∙◌, arith}
-use Rattle.rising.specs.Rising.{has}
-use Rattle.rising.proofs.Bools.{clash}
+use Rattle.sorted_sets.specs.Rising.{has}
+use Rattle.sorted_sets.proofs.Bools.{clash}
 use Rattle.slot_keys.specs.declared.key.Key.{Key}
 use Rattle.slot_keys.specs.Keys.{key_cmp, key_cmp-total}
 use Rattle.slot_keys.specs.Marks.{marked}

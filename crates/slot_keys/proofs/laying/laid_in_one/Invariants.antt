@@ -1,7 +1,7 @@
 -- The old keys so far, and the others below the next one, are put.
 use Rattle.std.proofs.Common.{◌≡◌, ◌≤◌, ◌++◌, drop, length, not, take}
 use Rattle.std.specs.Prelude.{map as mapped}
-use Rattle.rising.specs.Rising.{sorted}
+use Rattle.sorted_sets.specs.Rising.{sorted}
 use Rattle.slot_keys.specs.Keys.{key_cmp}
 use Rattle.slot_keys.specs.Marks.{marked}
 use Rattle.slot_keys.specs.KeyCounts.{count_beside}

@@ -2,7 +2,7 @@
 use Rattle.std.proofs.Common.{◌≡◌, ◌<◌, ◌≤◌, Option, Some, IfSome, length, slice_get, refl, sym, subst}
 use Rattle.std.proofs.lemmas.Option.{slice_get_read}
 use Rattle.std.proofs.lemmas.Result.{on_ok_weaker}
-use Rattle.rising.specs.Rising.{sorted}
+use Rattle.sorted_sets.specs.Rising.{sorted}
 use Rattle.rdf_term.specs.Order.{triple_cmp}
 use Rattle.subgraph.specs.Entries.{GraphState, terms_with, union_of}
 use Rattle.subgraph.proofs.Placed.{set_one}

@@ -1,6 +1,6 @@
 -- The entity was in this graph, or in another, which has it no longer.
 use Rattle.std.proofs.Common.{◌≡◌, true, is_some, subst}
-use Rattle.rising.specs.Rising.{sorted}
+use Rattle.sorted_sets.specs.Rising.{sorted}
 use Rattle.rdf_term.specs.Order.{triple_cmp}
 use Rattle.subgraph.specs.Placing.{set_at}
 use Rattle.subgraph.proofs.Placed.{placed_again, placed_moved}

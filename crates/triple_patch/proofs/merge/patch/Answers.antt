@@ -1,6 +1,6 @@
 -- A difference of a rising list rises.
 use Rattle.std.proofs.Common.{sym, subst}
-use Rattle.rising.specs.Rising.{IsRising}
+use Rattle.sorted_sets.specs.Rising.{IsRising}
 use Rattle.rdf_term.specs.Order.{triple_cmp}
 use Rattle.triple_patch.proofs.Merging.{IsRising-difference}
 use Rattle.triple_patch.proofs.merge.patch.Goals as goal

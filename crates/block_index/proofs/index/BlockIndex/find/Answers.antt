@@ -1,6 +1,6 @@
 -- The key is there exactly where it was found.
 use Rattle.std.proofs.Common.{◌∙◌, sym, ap}
-use Rattle.rising.specs.Rising.{has}
+use Rattle.sorted_sets.specs.Rising.{has}
 use Rattle.block_index.specs.Blocks.{keys_of}
 use Rattle.block_index.specs.Groups.{index_of}
 use Rattle.block_index.proofs.Standing.{found_is}

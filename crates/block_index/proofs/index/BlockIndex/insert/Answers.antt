@@ -1,6 +1,6 @@
 -- A key comes in at its position.
 use Rattle.std.proofs.Common.{◌∙◌, not, true, false, sym, ap, subst}
-use Rattle.rising.specs.Rising.{has}
+use Rattle.sorted_sets.specs.Rising.{has}
 use Rattle.std.specs.BTreeSet.{insert_key}
 use Rattle.block_index.specs.Blocks.{keys_of, ChangesTwo}
 use Rattle.block_index.specs.Groups.{index_of}

@@ -1,6 +1,6 @@
 -- The keys from the position of the first on, up to the last.
 use Rattle.std.proofs.Common.{◌∙◌, ℕ, Bool, true, false, cond, ◌+◌, ◌≤◌, length, sym, ap, subst, arith}
-use Rattle.rising.specs.Rising.{IsRising}
+use Rattle.sorted_sets.specs.Rising.{IsRising}
 use Rattle.block_index.specs.Blocks.{keys_of, keys_between}
 use Rattle.block_index.specs.Groups.{index_of}
 use Rattle.block_index.specs.Search.{keys_from}

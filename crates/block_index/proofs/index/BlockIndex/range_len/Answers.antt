@@ -1,6 +1,6 @@
 -- As many keys as stand between the two positions.
 use Rattle.std.proofs.Common.{◌∙◌, ◌-◌, ◌<◌, length, sym, ap, subst, arith}
-use Rattle.rising.specs.Rising.{IsRising}
+use Rattle.sorted_sets.specs.Rising.{IsRising}
 use Rattle.block_index.specs.Blocks.{AreFilled, keys_of, keys_between}
 use Rattle.block_index.specs.Groups.{index_of}
 use Rattle.block_index.specs.Search.{keys_before}

@@ -1,6 +1,6 @@
 -- A key goes from its position.
 use Rattle.std.proofs.Common.{◌∙◌, ◌<◌, List, [], ◌∷◌, length, true, sym, ap, subst, arith}
-use Rattle.rising.specs.Rising.{has}
+use Rattle.sorted_sets.specs.Rising.{has}
 use Rattle.std.specs.Set.{remove_key}
 use Rattle.std.specs.Ordering.{eq_by_cmp}
 use Rattle.std.proofs.lemmas.Bool.{not-true, not-false}

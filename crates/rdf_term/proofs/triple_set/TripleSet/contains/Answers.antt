@@ -1,6 +1,6 @@
 use Rattle.std.proofs.Common.{◌≡◌, ◌∙◌, sym, subst}
-use Rattle.rising.specs.Rising.{IsRising}
-use Rattle.rising.proofs.Sorting.{found}
+use Rattle.sorted_sets.specs.Rising.{IsRising}
+use Rattle.sorted_sets.proofs.Sorting.{found}
 use Rattle.rdf_term.specs.Order.{triple_cmp, triple_cmp-total}
 use Rattle.rdf_term.proofs.triple_set.TripleSet.contains.Goals as goal
 

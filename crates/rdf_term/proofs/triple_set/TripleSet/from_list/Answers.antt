@@ -1,7 +1,7 @@
 use Rattle.std.proofs.Common.{◌∙◌, ap, sym, subst}
 use Rattle.std.proofs.lemmas.List.Filters.{dedup_is}
-use Rattle.rising.specs.Rising.{IsRising, sorted}
-use Rattle.rising.proofs.Sorting.{deduped, deduped_rising}
+use Rattle.sorted_sets.specs.Rising.{IsRising, sorted}
+use Rattle.sorted_sets.proofs.Sorting.{deduped, deduped_rising}
 use Rattle.rdf_term.specs.Order.{triple_cmp, triple_cmp-total}
 use Rattle.rdf_term.proofs.Texts.{triple_cmp-IsAntisymmetric}
 use Rattle.rdf_term.proofs.triple_set.TripleSet.from_list.Goals as goal

@@ -3,7 +3,7 @@ use Rattle.std.proofs.Common.{◌≡◌, eq-eqb, ne_eqb, ◌∙◌, sym, ap, sub
 use Rattle.std.specs.FinMap as map
 use Rattle.std.specs.Bool.{OnFalse}
 use Rattle.std.proofs.lemmas.Bool.{not-true, not-false}
-use Rattle.rising.specs.Rising.{has}
+use Rattle.sorted_sets.specs.Rising.{has}
 use Rattle.slot_keys.specs.Keys.{key_cmp}
 use Rattle.slot_index.specs.Counts.{count_of, counts_of, raised}
 use Rattle.slot_index.specs.Counted.{IsCounted, with_more}

@@ -1,7 +1,7 @@
 -- The stored triples are those of the indexes.
 use Rattle.std.proofs.Common.{◌≡◌, ◌∙◌, Bool, IfOk, ◌&&◌, count_by, sym, ap, subst}
 use Rattle.std.specs.FinMap as map
-use Rattle.rising.specs.Rising.{IsRising}
+use Rattle.sorted_sets.specs.Rising.{IsRising}
 use Rattle.slot_keys.specs.declared.key.Key.{Key}
 use Rattle.slot_keys.specs.Keys.{key_cmp}
 use Rattle.slot_index.specs.Patterns.{slots_agree}

@@ -2,7 +2,7 @@
 use Rattle.std.proofs.Common.{◌∙◌, length, refl, sym, ap, arith}
 use Rattle.std.specs.BTreeSet.{insert_key}
 use Rattle.std.proofs.lemmas.Bool.{not-true}
-use Rattle.rising.specs.Rising.{has}
+use Rattle.sorted_sets.specs.Rising.{has}
 use Rattle.block_index.specs.Blocks.{keys_of}
 use Rattle.slot_keys.specs.Keys.{key_cmp, turned}
 use Rattle.slot_index.proofs.Passing.{length-insert_key}

@@ -1,5 +1,5 @@
 use Rattle.std.proofs.Common.{arith}
-use Rattle.rising.proofs.Bools.{clash}
+use Rattle.sorted_sets.proofs.Bools.{clash}
 use Rattle.slot_keys.proofs.Adding.{first_added, first_apart, other_added, other_apart}
 use Rattle.slot_keys.proofs.added.Added.insert.Goals as goal
 

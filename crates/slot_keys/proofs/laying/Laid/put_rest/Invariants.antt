@@ -1,7 +1,7 @@
 -- The others so far are put.
 use Rattle.std.proofs.Common.{◌≡◌, ◌++◌, ℕ, true, drop}
 use Rattle.std.specs.Prelude.{map as mapped}
-use Rattle.rising.specs.Rising.{has}
+use Rattle.sorted_sets.specs.Rising.{has}
 use Rattle.slot_keys.specs.declared.key.Key.{Key}
 use Rattle.slot_keys.specs.Keys.{key_cmp}
 use Rattle.slot_keys.proofs.laying.Laid.put_rest.Given as goal

@@ -2,8 +2,8 @@
 use Rattle.std.proofs.Common.{◌≡◌, List, ap, ◌∙◌}
 use Rattle.std.specs.FinMap as map
 use Rattle.std.proofs.lemmas.Result.{on_ok_weaker}
-use Rattle.rising.specs.Rising.{sorted}
-use Rattle.rising.proofs.Rising.{sorted_rising}
+use Rattle.sorted_sets.specs.Rising.{sorted}
+use Rattle.sorted_sets.proofs.Rising.{sorted_rising}
 use Rattle.rdf_term.specs.declared.triple.Triple.{Triple}
 use Rattle.rdf_term.specs.Order.{triple_cmp, triple_cmp-total}
 use Rattle.rdf_term.proofs.Texts.{triple_cmp-IsAntisymmetric}

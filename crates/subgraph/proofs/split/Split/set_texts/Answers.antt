@@ -1,7 +1,7 @@
 -- The entity is in one graph, or a fault changed none.
 use Rattle.std.proofs.Common.{Some, length, refl}
 use Rattle.std.proofs.lemmas.Result.{on_err_weaker, on_ok_weaker}
-use Rattle.rising.specs.Rising.{sorted}
+use Rattle.sorted_sets.specs.Rising.{sorted}
 use Rattle.rdf_term.specs.Order.{triple_cmp}
 use Rattle.subgraph.specs.Split.{entries_in, entry}
 use Rattle.subgraph.proofs.Placed.{entries_with, is_full, is_within, placed_or_same}

@@ -2,8 +2,8 @@
 use Rattle.std.proofs.Common.{◌≡◌, ℕ, ◌+◌, ◌≤◌, ◌++◌, List, length, take, true, ap, subst, sym, ◌∙◌, arith}
 use Rattle.std.proofs.Math.Seq.{take-length}
 use Rattle.std.proofs.lemmas.List.{length-append}
-use Rattle.rising.specs.Rising.{difference, has}
-use Rattle.rising.proofs.Rising.{IsRising-sorted}
+use Rattle.sorted_sets.specs.Rising.{difference, has}
+use Rattle.sorted_sets.proofs.Rising.{IsRising-sorted}
 use Rattle.rdf_term.specs.declared.triple.Triple.{Triple}
 use Rattle.text_region.specs.Region.{Texts}
 use Rattle.slot_keys.specs.declared.key.Key.{Key}

@@ -1,6 +1,6 @@
 use Rattle.std.proofs.Common.{◌≡◌, false, is_ok, ap, subst, sym, ◌∙◌}
-use Rattle.rising.proofs.Bools.{or_false}
-use Rattle.rising.proofs.Sorting.{found}
+use Rattle.sorted_sets.proofs.Bools.{or_false}
+use Rattle.sorted_sets.proofs.Sorting.{found}
 use Rattle.slot_keys.specs.declared.key.Key.{Key}
 use Rattle.slot_keys.specs.Added.{is_held}
 use Rattle.slot_keys.specs.Keys.{key_cmp-total}

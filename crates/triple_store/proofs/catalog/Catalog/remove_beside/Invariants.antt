@@ -1,6 +1,6 @@
 use Rattle.std.proofs.Common.{take}
 use Rattle.std.specs.FinMap as map
-use Rattle.rising.specs.Rising.{difference}
+use Rattle.sorted_sets.specs.Rising.{difference}
 use Rattle.slot_keys.specs.Keys.{key_cmp}
 use Rattle.triple_store.specs.Costs.{Costs}
 use Rattle.triple_store.specs.Moves.{Removes}

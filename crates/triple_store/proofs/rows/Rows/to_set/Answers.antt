@@ -2,7 +2,7 @@
 use Rattle.std.proofs.Common.{◌≡◌, ◌<◌, ◌≤◌, ◌++◌, ◌∙◌, ◌∷◌, [], Some, take, length, get_or, ap, sym, subst, arith}
 use Rattle.std.proofs.lemmas.List.{take_all, take_more}
 use Rattle.std.proofs.lemmas.Option.{slice_get-get_or}
-use Rattle.rising.specs.Rising.{IsRising}
+use Rattle.sorted_sets.specs.Rising.{IsRising}
 use Rattle.rdf_term.specs.Order.{triple_cmp}
 use Rattle.triple_store.proofs.rows.Rows.to_set.Goals as goal
 

@@ -1,8 +1,8 @@
 -- The triples of the page change, or all is as it was.
 use Rattle.std.proofs.Common.{◌≡◌, ◌<◌, ◌≤◌, Err, Option, refl, sym, ap, subst, ◌∙◌, arith}
 use Rattle.std.specs.FinMap as map
-use Rattle.rising.specs.Rising.{has}
-use Rattle.rising.proofs.Rising.{has-sorted}
+use Rattle.sorted_sets.specs.Rising.{has}
+use Rattle.sorted_sets.proofs.Rising.{has-sorted}
 use Rattle.rdf_term.specs.Order.{triple_cmp, triple_cmp-total}
 use Rattle.term_pool.specs.declared.fault.PoolFault.TheVariants.{Full}
 use Rattle.entity_state.specs.declared.record.Held.{Held}

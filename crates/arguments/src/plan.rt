@@ -1,0 +1,55 @@
+// What the arguments ask for.
+
+ghost use Rattle.std.specs.Prelude.{◌≡◌, map, string_bytes, IfSome};
+ghost use Rattle.arguments.specs.Plan.{IsSized, asked, plan_of};
+
+use crate::items::Request;
+use crate::options::{FollowOptions, ReplayOptions, SplitOptions};
+use crate::table::Command;
+
+/// What the arguments ask for.
+#[derive(Drop)]
+pub enum Plan<'a> {
+    /// To replay the event lines of the input.
+    Replay(ReplayOptions<'a>),
+    /// To replay deliveries and pages that are made from this number, and to print a summary.
+    Drill(u32),
+    /// To replay the event lines of the input, and to tell how the stored triples change.
+    Patches(ReplayOptions<'a>),
+    /// To rebuild a producer's triples from records of their changes.
+    Follow(FollowOptions),
+    /// To replay the event lines of the input into several graphs.
+    Split(SplitOptions<'a>),
+}
+
+/// The plan that the arguments are: a command, and then items of its table in any order, each at most once; a drill has its size, and a
+/// split the text of its routes.
+pub fn read_plan<'a>(words: &'a [String]) -> Option<Plan<'a>>
+    ensures value { result ≡ plan_of (map (λ w. string_bytes w) words.now) }
+    ensures sized { IfSome result IsSized }
+{
+    let (word, after) = words.split_first()?;
+    let command = Command::named(word.as_str())?;
+    let request = Request::read(command, after)?;
+    asked(&request)
+}
+
+// What a command and its items ask for.
+fn asked<'a>(request: &Request<'a>) -> Option<Plan<'a>>
+    ensures value { result ≡ asked request.now.command request.now.items }
+    ensures sized { IfSome result IsSized }
+{
+    match request.command() {
+        Command::Replay => Some(Plan::Replay(ReplayOptions::of_items(request))),
+        Command::Drill => {
+            let size = request.number("--size")?;
+            Some(Plan::Drill(size as u32))
+        }
+        Command::Patches => Some(Plan::Patches(ReplayOptions::of_items(request))),
+        Command::Follow => Some(Plan::Follow(FollowOptions::of_items(request))),
+        Command::Split => {
+            let route = request.text("--route")?;
+            Some(Plan::Split(SplitOptions::of_items(request, route)))
+        }
+    }
+}

@@ -1,6 +1,0 @@
--- Both ways.
-use Rattle.words.proofs.Spelling.{planned, plan_spelled}
-use Rattle.words.proofs.grammar.plans_are_spelled.Goals as goal
-
-pub returns : goal.returns
-returns c = λ words plan. (plan_spelled words plan, planned words plan)
