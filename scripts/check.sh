@@ -102,11 +102,21 @@ find_scripts() {
   done < <(find . \( -name .git -o -name out -o -path ./crates \) -prune -o -type f -size -200k -print0 2>/dev/null)
 }
 
+# Runs the mirror's tests that need neither a wiki nor a store, by the system's Python.
+check_mirror() {
+  if /usr/bin/python3 -c 'import aiohttp, pytest' 2>/dev/null; then
+    check_program mirror 240 '' /usr/bin/python3 -m pytest -q -p no:cacheprovider mirror/tests/test_units.py mirror/tests/test_lines.py
+  else
+    pass_over mirror 'python3-pytest or python3-aiohttp is missing'
+  fi
+}
+
 run_checks() {
   local shells=() pythons=() run
   find_scripts
   check links 60 python3 scripts/check_links.py
   check manual 60 python3 scripts/check_manual.py
+  check pictures 60 python3 python3 scripts/pictures.py --check
   check shellcheck 120 shellcheck shellcheck "${shells[@]}"
   check pyflakes 60 pyflakes3 pyflakes3 "${pythons[@]}"
   check wrapper 240 script scripts/try_wrapper.sh
@@ -116,6 +126,8 @@ run_checks() {
   done
   check_program saves 120 '' scripts/kill_save.sh 20
   check_program pages 180 python3 scripts/slow_pages.py --once --most 20 "$WDQ"
+  check_program commands 240 python3 python3 scripts/check_commands.py
+  check_mirror
 }
 
 run_checks
