@@ -119,13 +119,13 @@ run_checks() {
   check pictures 60 python3 python3 scripts/pictures.py --check
   check shellcheck 120 shellcheck shellcheck "${shells[@]}"
   check pyflakes 60 pyflakes3 pyflakes3 "${pythons[@]}"
-  check wrapper 240 script scripts/try_wrapper.sh
+  check wrapper 600 script scripts/try_wrapper.sh
   [ "$WDQ" != "$built" ] || check program 900 rt ./wdq drill --size 1
   for run in examples/*/run.sh; do
     check_program "${run%/run.sh}" 480 '' "$run"
   done
-  check_program saves 120 '' scripts/kill_save.sh 20
-  check_program pages 180 python3 scripts/slow_pages.py --once --most 20 "$WDQ"
+  check_program saves 300 '' scripts/kill_save.sh 20
+  check_program pages 400 python3 scripts/slow_pages.py --once --most 20 "$WDQ"
   check_program commands 240 python3 python3 scripts/check_commands.py
   check_mirror
 }

@@ -48,8 +48,7 @@ PASSED_OVER = (
 STAND_INS = (
     (r"/backups/", "backups/"),
     (r"/usr/local/bin/", "bin/"),
-    (r' init --agent ".." --store ', ' --home another init --agent ".." --store '),
-    (r'--agent "\.\."| \.\.$', ' --agent "mirror/1.0 (jane@example.org)"'),
+    (r"wdq-mirror init (.* --store )", r"wdq-mirror --home another init \1"),
     (r"^(mirror/)?wdq-mirror (--home \S+ )?run ", r"timeout --preserve-status 10 \g<0>"),
 )
 # What a command needs, by a word of it: the name, and a command that succeeds where it is there.

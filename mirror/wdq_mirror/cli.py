@@ -13,7 +13,7 @@ from . import __version__, settings as settings_of
 from .errors import STATUSES, MirrorError, Unreachable, Usage
 
 BEGIN = """
-To begin (the home is the folder mirror, or that of --home, or of $WDQ_MIRROR):
+To begin (the home is the folder wikidata, or that of --home, or of $WDQ_MIRROR):
 
     wdq-mirror init --agent "mirror/1.0 (jane@example.org)"
     wdq-mirror load --began 2024-05-01T00:00:00Z latest-all.json.gz
@@ -323,7 +323,7 @@ def make_parser() -> argparse.ArgumentParser:
         epilog=f"exit statuses:\n{statuses}",
         formatter_class=argparse.RawDescriptionHelpFormatter,
     )
-    parser.add_argument("--home", type=pathlib.Path, default=pathlib.Path(os.environ.get("WDQ_MIRROR", "mirror")), metavar="FOLDER", help="the home")
+    parser.add_argument("--home", type=pathlib.Path, default=pathlib.Path(os.environ.get("WDQ_MIRROR", "wikidata")), metavar="FOLDER", help="the home")
     parser.add_argument("--version", action="version", version=__version__)
     add_words(parser.add_subparsers(metavar="COMMAND", required=True, dest="command"))
     return parser
