@@ -4,3 +4,4 @@ mod Rests
 mod SavedText
 mod Steps
 mod UnderWay
+mod Written

@@ -1,16 +1,16 @@
 -- How far the reading of a snapshot has come, and what that says of the file.
-use Rattle.std.proofs.Common.{◌≡◌, ◌≢◌, ℕ, zero, suc, ◌+◌, ◌-◌, ◌<◌, ◌==◌, ◌^◌, false, cond, inl, inr, take, add-one, List, [], ◌∷◌, ◌++◌, length, Option, None, Some, IfSome, min, refl, sym, ◌∙◌, ap, subst, append_assoc, append-nil, arith, length-append}
+use Rattle.std.proofs.Common.{◌≡◌, ◌≢◌, ℕ, zero, suc, ◌+◌, ◌-◌, ◌<◌, ◌≤◌, ◌==◌, ◌^◌, false, cond, inl, inr, take, add-one, List, [], ◌∷◌, ◌++◌, length, Option, None, Some, IfSome, min, refl, sym, ◌∙◌, ap, subst, append_assoc, append-nil, arith, length-append}
 use Rattle.std.specs.Prelude.{option_and_then}
 use Rattle.std.specs.Option.{option_map}
 use Rattle.wq_io.specs.Streams.{IsAtEnd}
 use Rattle.wq_io.specs.Lines.{IsLineLong, IsOneLine, IsSound, IsTooLong, Reading, before_lines, ended_lines, fresh, input_length, input_lines, line_feed, lines, onto_first_line, room, taken, unread}
-use Rattle.snapshot.specs.declared.line.Line.{Line}
-use Rattle.snapshot.specs.File.{lines_in, saved_in_bytes}
-use Rattle.snapshot.specs.LineText.{line_of}
+use Rattle.snapshot.specs.{declared.line.Line.Line, File.lines_in, File.saved_in_bytes, LineText.line_of}
 use Rattle.snapshot.specs.Whole.{Loading, unbegun, after_line, after_lines, saved_in, whole}
 use Rattle.checkpoint.specs.declared.loader.Stage.{Stage}
-use Rattle.checkpoint.specs.Causes.{EndsEarly, IsBadSnapshotLine, IsFileOverfull, IsUnended, longest_file, longest_line}
-use Rattle.checkpoint.specs.Loading.{IsReady, IsRefused, Leads, MayCome, Overfills, LoadsLine, loading_of}
+use Rattle.checkpoint.specs.Causes.{EndsEarly, IsBadSnapshotLine, IsFileOverfull, IsUnended, longest_file}
+use Rattle.checkpoint.specs.Loading.{BeginsWith, IsReadable, IsReady, IsRefused, Leads, MayCome, Overfills, LoadsLine, loading_of, longest_line}
+use Rattle.replay_model.proofs.ToldContents.{Each-append}
+use Rattle.sorted_sets.specs.Rising.{Each}
 use Rattle.checkpoint.proofs.Feeds.{feeds-unended, feeds-whole}
 use Rattle.wq_io.proofs.LineLists.{one_line-cons}
 use Rattle.world.specs.WorldState.{WorldState}
@@ -53,6 +53,7 @@ pub record Progress (start : Option (List ℕ)) (reader : Reading) (left : Optio
   pub items : List Line
   pub are : lines_in done ≡ Some items
   pub lead : Leads unbegun items loading
+  pub readable : Each IsReadable done
   pub measured : length_so_far ≡ min (length (ended_lines done)) (2 ^ 64 - 1)
 
 pub nothing_read : (limit max_line : ℕ) (start : Option (List ℕ)) → Progress start (fresh limit max_line) start unbegun 0
@@ -62,6 +63,7 @@ nothing_read limit max_line start = record {
   items = [];
   are = refl;
   lead = refl;
+  readable = tt;
   measured = refl;
 }
   where
@@ -94,8 +96,8 @@ measure : (all so_far text now : ℕ) → so_far ≡ min all (2 ^ 64 - 1) → no
 measure all so_far text now is next = omega arith
 
 pub line_read : (start left left_next : Option (List ℕ)) (reader next : Reading) (before now : Loading) (n m : ℕ) (text : List ℕ) → Progress start reader left before n
-    → IsNextLine text reader next left left_next → LoadsLine text before now → m ≡ min (n + length text + 1) (2 ^ 64 - 1) → Progress start next left_next now m
-line_read start left left_next reader next before now n m text p is takes longer = record {
+    → IsNextLine text reader next left left_next → LoadsLine text before now → length text ≤ longest_line → m ≡ min (n + length text + 1) (2 ^ 64 - 1) → Progress start next left_next now m
+line_read start left left_next reader next before now n m text p is takes short longer = record {
   done = p.done ++ text ∷ [];
   read = record {
     are = lines_grow (input_lines start) (input_lines (unread reader left)) (input_lines (unread next left_next)) p.done text p.read.are is.first;
@@ -105,6 +107,7 @@ line_read start left left_next reader next before now n m text p is takes longer
   items = p.items ++ takes.item ∷ [];
   are = lines_in-push p.done p.items text takes.item p.are takes.read;
   lead = lead-push unbegun p.items before takes.item now p.lead takes.comes takes.after;
+  readable = Each-append IsReadable p.done (text ∷ []) p.readable (record { utf8 = takes.utf8; short = short }, tt);
   measured = measure (length (ended_lines p.done)) n (length text) m p.measured longer ∙ ap (λ k. min k (2 ^ 64 - 1)) (sym (ended-push p.done text));
 }
 
@@ -172,7 +175,7 @@ module _ (bytes : List ℕ) (left : Option (List ℕ)) (reader : Reading) (loadi
         record {
           done = p.done;
           loading = loading;
-          first = record { others = text ∷ there.0; are = first_lines (text ∷ there.0) there.1; items = p.items; read = p.are; lead = p.lead };
+          first = record { others = text ∷ there.0; are = first_lines (text ∷ there.0) there.1; readable = p.readable; items = p.items; read = p.are; lead = p.lead };
           counted = next_is ∙ ap (λ k. k + 1) p.read.counted;
           line = text;
           others = there.0;
@@ -192,6 +195,7 @@ module _ (bytes : List ℕ) (left : Option (List ℕ)) (reader : Reading) (loadi
           first = record {
             others = text ∷ there.0;
             are = first_lines (text ∷ there.0) there.1;
+            readable = p.readable;
             items = p.items;
             read = p.are;
             lead = subst (Leads unbegun p.items) (stands ∙ ap (loading_of w stage) p.read.counted) p.lead;
@@ -224,7 +228,7 @@ module _ (bytes : List ℕ) (left : Option (List ℕ)) (reader : Reading) (loadi
       record {
         done = p.done;
         loading = loading;
-        first = record { others = first.line ∷ first.others; are = behind.parts ∙ ap (λ ls. p.done ++ ls) (sym u.2 ∙ first.is); items = p.items; read = p.are; lead = p.lead };
+        first = record { others = first.line ∷ first.others; are = behind.parts ∙ ap (λ ls. p.done ++ ls) (sym u.2 ∙ first.is); readable = p.readable; items = p.items; read = p.are; lead = p.lead };
         counted = next_is ∙ ap (λ k. k + 1) p.read.counted;
         line = first.line;
         others = first.others;
@@ -261,6 +265,10 @@ module _ (bytes : List ℕ) (left : Option (List ℕ)) (reader : Reading) (loadi
         let measured : n ≡ min (length (ended_lines (lines bytes))) (2 ^ 64 - 1) = p.measured ∙ ap (λ ls. min (length (ended_lines ls)) (2 ^ 64 - 1)) (sym all_lines) in
         omega (arith, all_taken, same, sound.bounded, limit, measured)
 
+    -- all lines lead here
+    all_begin : BeginsWith bytes (lines bytes) loading
+    all_begin = record { others = []; are = sym (append-nil (lines bytes)); readable = subst (Each IsReadable) (sym all_lines) p.readable; items = p.items; read = ap lines_in all_lines ∙ p.are; lead = p.lead }
+
     -- what the file keeps
     pub saved : IsSound reader → reader.max_bytes ≡ longest_file → taken reader ≡ n → saved_in_bytes bytes ≡ whole loading
     saved sound limit same =
@@ -271,6 +279,8 @@ module _ (bytes : List ℕ) (left : Option (List ℕ)) (reader : Reading) (loadi
     -- the last line isn't ended
     pub unended : IsSound reader → reader.max_bytes ≡ longest_file → taken reader ≢ n → IsUnended bytes reader.given
     unended sound limit other = record {
+      loading = loading;
+      all = all_begin;
       unended = feeds-unended bytes (λ same. other (all_taken ∙ same ∙ ap (λ ls. length (ended_lines ls)) all_lines ∙ small same));
       counted = p.read.counted ∙ ap length (sym all_lines);
     }
@@ -281,10 +291,11 @@ module _ (bytes : List ℕ) (left : Option (List ℕ)) (reader : Reading) (loadi
             omega (arith, all_taken, same, length_is, sound.bounded, limit, p.measured)
 
     -- the snapshot doesn't end
-    pub ends_early : (number : ℕ) → number ≡ reader.given + 1 → whole loading ≡ None → EndsEarly bytes number
-    ends_early number next_is not_whole = record {
+    pub ends_early : IsSound reader → reader.max_bytes ≡ longest_file → taken reader ≡ n → (number : ℕ) → number ≡ reader.given + 1 → whole loading ≡ None → EndsEarly bytes number
+    ends_early sound limit same number next_is not_whole = record {
       loading = loading;
-      all = record { others = []; are = sym (append-nil (lines bytes)); items = p.items; read = ap lines_in all_lines ∙ p.are; lead = p.lead };
+      all = all_begin;
+      ended = feeds-whole bytes (same_length sound limit same);
       unended = not_whole;
       counted = next_is ∙ ap (λ k. k + 1) (p.read.counted ∙ ap length (sym all_lines));
     }

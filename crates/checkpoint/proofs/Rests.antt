@@ -1,20 +1,14 @@
 -- Taking an event makes none due.
 use Rattle.std.proofs.Common.{◌≡◌, ℕ, ℤ, Bool, true, false, cond, not, ◌&&◌, ◌||◌, List, [], ◌∷◌, Option, None, Some, refl, sym, ◌∙◌, ap, true≢false}
-use Rattle.std.specs.Ordering.{eq_by_cmp}
-use Rattle.std.specs.BTreeSet.{insert_key}
+use Rattle.std.specs.{Ordering.eq_by_cmp, BTreeSet.insert_key, List.list_any}
 use Rattle.std.specs.Prelude.{find}
-use Rattle.std.specs.List.{list_any}
 use Rattle.sorted_sets.specs.Rising.{has, IsRising}
-use Rattle.sorted_sets.proofs.Rising.{IsRising-insert_key}
-use Rattle.sorted_sets.proofs.Bools.{equal, or_false, or_true}
-use Rattle.sorted_sets.proofs.Finding.{list_any-insert_key}
-use Rattle.entity_model.specs.declared.event.Event.{Event}
-use Rattle.entity_model.specs.Event.{event_cmp, event_cmp_same, event_cmp_total}
+use Rattle.sorted_sets.proofs.{Rising.IsRising-insert_key, Bools.equal, Bools.or_false, Bools.or_true, Finding.list_any-insert_key}
+use Rattle.entity_model.specs.{declared.event.Event.Event, Event.event_cmp, Event.event_cmp_same, Event.event_cmp_total}
 use Rattle.reorder_buffer.specs.declared.taken.Taken.TheVariants.{New, Repeat, Late}
 use Rattle.reorder_buffer.specs.Watermarks.{is_due, reached}
 use Rattle.reorder_buffer.specs.Buffered.{Buffered, after_answer, after_taking, first_due}
-use Rattle.replay_model.specs.Explained.{is_applied}
-use Rattle.replay_model.specs.ReplayState.{ReplayState}
+use Rattle.replay_model.specs.{Explained.is_applied, ReplayState.ReplayState}
 use Rattle.snapshot.specs.Waiting.{at_mark}
 use Rattle.checkpoint.specs.Loading.{IsResting}
 

@@ -2,25 +2,20 @@
 use Rattle.std.proofs.Common.{◌≡◌, ℕ, ◌+◌, List, [], ◌∷◌, ◌++◌, length, flat_map, refl, sym, ◌∙◌, ap, subst, append_assoc, append-nil, arith, length-append, unwrap_or, Result, Ok, Err}
 use Rattle.std.specs.Prelude.{map}
 use Rattle.std.specs.FinMap as finite
-use Rattle.std.proofs.lemmas.List.{length-map}
-use Rattle.std.proofs.lemmas.List.Concat.{flat_map-append}
-use Rattle.entity_model.specs.declared.id.EntityId.{EntityId}
-use Rattle.entity_model.specs.declared.event.Event.{Event}
+use Rattle.std.proofs.{lemmas.List.length-map, lemmas.List.Concat.flat_map-append}
+use Rattle.entity_model.specs.{declared.id.EntityId.EntityId, declared.event.Event.Event}
 use Rattle.entity_state.specs.Record.{blank}
 use Rattle.replay_model.specs.Records.{Records, record_of}
 use Rattle.side_output.specs.declared.entry.Entry.{Entry}
 use Rattle.wq_io.specs.Lines.{ended_lines}
-use Rattle.snapshot.specs.declared.line.Head.{Head}
-use Rattle.snapshot.specs.declared.line.Line.{Line}
+use Rattle.snapshot.specs.{declared.line.Head.Head, declared.line.Line.Line}
 use Rattle.snapshot.specs.declared.line.Line.TheVariants.{Head as Begins, Remembered, Entity, Side, End}
-use Rattle.snapshot.specs.File.{file_text}
-use Rattle.snapshot.specs.LineText.{line_text}
+use Rattle.snapshot.specs.{File.file_text, LineText.line_text}
 use Rattle.snapshot.specs.Whole.{Saved, entity_line, head_of, lines_before_end, snapshot_lines}
-use Rattle.text_output.specs.Printing.{Output, Prints}
 use Rattle.text_output.specs.declared.write.Unwritten.{Unwritten}
-use Rattle.text_output.proofs.Parts.{prints_both, prints_first}
 use Rattle.world.proofs.Entries.{over_ids}
-use Rattle.checkpoint.specs.Saved.{ended}
+use Rattle.checkpoint.specs.{Archive.Archive, Archive.Writes, Saved.ended}
+use Rattle.checkpoint.proofs.Written.{writes_both}
 
 -- each line with a line feed
 each_ended : (lines : List Line) → ended_lines (map line_text lines) ≡ flat_map ended lines
@@ -75,34 +70,6 @@ all_parts s ids n is count =
     let last : ended (End n) ≡ flat_map ended end = ap (λ m. ended (End m)) count ∙ sym (append-nil (ended (End (length (lines_before_end s))))) in
     (λ i. head ++ (sym by_event i ++ (sym by_entry i ++ (by_entity i ++ last i)))) ∙ sym (whole ∙ regrouped)
 
--- ---- five parts, and where one isn't written wholly
-
-module _ (a b c d e : List ℕ) where
-  -- all parts, one after the other
-  abbrev pub five : List ℕ
-  five = a ++ (b ++ (c ++ (d ++ e)))
-
-  pub five_first : (why : Unwritten) (o o1 : Output) → Prints a o o1 (Err why) → Prints five o o1 (Err why)
-  five_first why o o1 first = prints_first why a (b ++ (c ++ (d ++ e))) o o1 first
-
-  pub five_second : (why : Unwritten) (o o1 o2 : Output) → Prints a o o1 (Ok tt) → Prints b o1 o2 (Err why) → Prints five o o2 (Err why)
-  five_second why o o1 o2 first second = prints_both (Err why) a (b ++ (c ++ (d ++ e))) o o1 o2 first (prints_first why b (c ++ (d ++ e)) o1 o2 second)
-
-  pub five_third : (why : Unwritten) (o o1 o2 o3 : Output) → Prints a o o1 (Ok tt) → Prints b o1 o2 (Ok tt) → Prints c o2 o3 (Err why) → Prints five o o3 (Err why)
-  five_third why o o1 o2 o3 first second third =
-      prints_both (Err why) a (b ++ (c ++ (d ++ e))) o o1 o3 first (prints_both (Err why) b (c ++ (d ++ e)) o1 o2 o3 second (prints_first why c (d ++ e) o2 o3 third))
-
-  pub five_fourth : (why : Unwritten) (o o1 o2 o3 o4 : Output) → Prints a o o1 (Ok tt) → Prints b o1 o2 (Ok tt) → Prints c o2 o3 (Ok tt) → Prints d o3 o4 (Err why) → Prints five o o4 (Err why)
-  five_fourth why o o1 o2 o3 o4 first second third fourth =
-      prints_both (Err why) a (b ++ (c ++ (d ++ e))) o o1 o4 first (prints_both (Err why) b (c ++ (d ++ e)) o1 o2 o4 second
-      (prints_both (Err why) c (d ++ e) o2 o3 o4 third (prints_first why d e o3 o4 fourth)))
-
-  pub five_all : (result : Result (Unit {0}) Unwritten) (o o1 o2 o3 o4 o5 : Output) → Prints a o o1 (Ok tt) → Prints b o1 o2 (Ok tt) → Prints c o2 o3 (Ok tt) → Prints d o3 o4 (Ok tt) → Prints e o4 o5 result
-      → Prints five o o5 result
-  five_all result o o1 o2 o3 o4 o5 first second third fourth last =
-      prints_both result a (b ++ (c ++ (d ++ e))) o o1 o5 first (prints_both result b (c ++ (d ++ e)) o1 o2 o5 second
-      (prints_both result c (d ++ e) o2 o3 o5 third (prints_both result d e o3 o4 o5 fourth last)))
-
 -- the parts of a snapshot, as they are at hand
 module _ (s : Saved) (head : Head) (events : List Event) (entries : List Entry) (ids : List EntityId) (n : ℕ)
     (is_head : head ≡ head_of s) (are_events : events ≡ s.state.buffer.kept) (are_entries : entries ≡ s.state.played.side)
@@ -125,32 +92,16 @@ module _ (s : Saved) (head : Head) (events : List Event) (entries : List Entry) 
   number : n ≡ length (lines_before_end s)
   number = count ∙ (λ i. length (are_events i) + length (are_entries i) + length ids + 1) ∙ counted s ids are_ids
 
-  parts : five first second third fourth last ≡ file_text s
+  parts : first ++ (second ++ (third ++ (fourth ++ last))) ≡ file_text s
   unfolding first second third fourth last
-  parts = (λ i. five (ended (Begins (is_head i))) (flat_map (λ e. ended (Remembered e)) (are_events i)) (flat_map (λ e. ended (Side e)) (are_entries i)) fourth last)
+  parts = (λ i. ended (Begins (is_head i)) ++ (flat_map (λ e. ended (Remembered e)) (are_events i) ++ (flat_map (λ e. ended (Side e)) (are_entries i) ++ (fourth ++ last))))
       ∙ all_parts s ids n are_ids number
 
-  pub save_first : (why : Unwritten) (o o1 : Output) → Prints (ended (Begins head)) o o1 (Err why) → Prints (file_text s) o o1 (Err why)
-  unfolding first
-  save_first why o o1 a = subst (λ bytes. Prints bytes o o1 (Err why)) parts (five_first first second third fourth last why o o1 a)
-
-  pub save_second : (why : Unwritten) (o o1 o2 : Output) → Prints (ended (Begins head)) o o1 (Ok tt) → Prints (flat_map (λ e. ended (Remembered e)) events) o1 o2 (Err why) → Prints (file_text s) o o2 (Err why)
-  unfolding first second
-  save_second why o o1 o2 a b = subst (λ bytes. Prints bytes o o2 (Err why)) parts (five_second first second third fourth last why o o1 o2 a b)
-
-  pub save_third : (why : Unwritten) (o o1 o2 o3 : Output) → Prints (ended (Begins head)) o o1 (Ok tt) → Prints (flat_map (λ e. ended (Remembered e)) events) o1 o2 (Ok tt)
-      → Prints (flat_map (λ e. ended (Side e)) entries) o2 o3 (Err why) → Prints (file_text s) o o3 (Err why)
-  unfolding first second third
-  save_third why o o1 o2 o3 a b c = subst (λ bytes. Prints bytes o o3 (Err why)) parts (five_third first second third fourth last why o o1 o2 o3 a b c)
-
-  pub save_fourth : (why : Unwritten) (o o1 o2 o3 o4 : Output) → Prints (ended (Begins head)) o o1 (Ok tt) → Prints (flat_map (λ e. ended (Remembered e)) events) o1 o2 (Ok tt)
-      → Prints (flat_map (λ e. ended (Side e)) entries) o2 o3 (Ok tt) → Prints (flat_map (λ x. ended (Entity x (record_of s.state.played.records x))) ids) o3 o4 (Err why)
-      → Prints (file_text s) o o4 (Err why)
-  unfolding first second third fourth
-  save_fourth why o o1 o2 o3 o4 a b c d = subst (λ bytes. Prints bytes o o4 (Err why)) parts (five_fourth first second third fourth last why o o1 o2 o3 o4 a b c d)
-
-  pub save_all : (result : Result (Unit {0}) Unwritten) (o o1 o2 o3 o4 o5 : Output) → Prints (ended (Begins head)) o o1 (Ok tt) → Prints (flat_map (λ e. ended (Remembered e)) events) o1 o2 (Ok tt)
-      → Prints (flat_map (λ e. ended (Side e)) entries) o2 o3 (Ok tt) → Prints (flat_map (λ x. ended (Entity x (record_of s.state.played.records x))) ids) o3 o4 (Ok tt)
-      → Prints (ended (End n)) o4 o5 result → Prints (file_text s) o o5 result
+  -- all of them were written
+  pub save_all : (result : Result (Unit {0}) Unwritten) (o o1 o2 o3 o4 o5 : Archive) → Writes (ended (Begins head)) o o1 (Ok tt) → Writes (flat_map (λ e. ended (Remembered e)) events) o1 o2 (Ok tt)
+      → Writes (flat_map (λ e. ended (Side e)) entries) o2 o3 (Ok tt) → Writes (flat_map (λ x. ended (Entity x (record_of s.state.played.records x))) ids) o3 o4 (Ok tt)
+      → Writes (ended (End n)) o4 o5 result → Writes (file_text s) o o5 result
   unfolding first second third fourth last
-  save_all result o o1 o2 o3 o4 o5 a b c d e = subst (λ bytes. Prints bytes o o5 result) parts (five_all first second third fourth last result o o1 o2 o3 o4 o5 a b c d e)
+  save_all result o o1 o2 o3 o4 o5 a b c d e =
+      subst (λ bytes. Writes bytes o o5 result) parts (writes_both result first (second ++ (third ++ (fourth ++ last))) o o1 o5 a (writes_both result second (third ++ (fourth ++ last)) o1 o2 o5 b
+      (writes_both result third (fourth ++ last) o2 o3 o5 c (writes_both result fourth last o3 o4 o5 d e))))

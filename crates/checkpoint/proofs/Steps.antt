@@ -1,40 +1,25 @@
 -- A world that took the head, or an event, may take more lines.
 use Rattle.std.proofs.Common.{◌≡◌, ℕ, ℤ, Bool, true, false, ◌||◌, filter, List, [], ◌∷◌, ◌++◌, length, Option, None, Result, Ok, Err, refl, sym, ◌∙◌, ap, subst, arith}
 use Rattle.std.specs.FinMap as map
-use Rattle.std.specs.Ordering.{eq_by_cmp}
-use Rattle.std.specs.Result.{OnOk}
-use Rattle.std.proofs.lemmas.List.{length-map}
-use Rattle.std.proofs.lemmas.List.Elements.{filter_map-append}
+use Rattle.std.specs.{Ordering.eq_by_cmp, Result.OnOk}
+use Rattle.std.proofs.{lemmas.List.length-map, lemmas.List.Elements.filter_map-append}
 use Rattle.sorted_sets.specs.Rising.{has}
-use Rattle.sorted_sets.proofs.Bools.{equal}
-use Rattle.sorted_sets.proofs.Rising.{has-append}
-use Rattle.entity_model.specs.Event.{event_cmp, event_cmp_same}
-use Rattle.entity_state.specs.declared.record.Record.{Record}
-use Rattle.side_output.specs.declared.entry.Cause.TheVariants.{Missing, Failed, Unfit}
-use Rattle.side_output.specs.declared.entry.Entry.{Entry}
-use Rattle.side_output.specs.declared.entry.Entry.TheVariants.{Late, Revision}
-use Rattle.reorder_buffer.specs.Watermarks.{reached}
-use Rattle.replay_model.specs.Records.{Bytes}
-use Rattle.replay_model.specs.Replies.{failed_event, failed_events}
-use Rattle.world.specs.Restoring.{MayStand, restored}
-use Rattle.world.proofs.PuttingIn.{documents_put}
-use Rattle.world.proofs.Starting.{no_documents}
-use Rattle.entity_model.specs.declared.id.EntityId.{EntityId}
-use Rattle.entity_model.specs.declared.event.Event.{Event}
+use Rattle.sorted_sets.proofs.{Bools.equal, Rising.has-append}
+use Rattle.entity_model.specs.{Event.event_cmp, Event.event_cmp_same, declared.id.EntityId.EntityId, declared.event.Event.Event}
 use Rattle.entity_model.specs.declared.mapping.MappingVersion.{MappingVersion}
 use Rattle.entity_model.specs.declared.mapping.MappingVersion.TheVariants.{One, Two}
-use Rattle.reorder_buffer.specs.Buffered.{after_taking}
-use Rattle.replay_model.specs.Play.{nothing_played}
+use Rattle.entity_state.specs.declared.record.Record.{Record}
+use Rattle.side_output.specs.declared.entry.Cause.TheVariants.{Missing, Failed, Unfit}
+use Rattle.side_output.specs.{declared.entry.Entry.Entry, declared.entry.Entry.TheVariants.Late, declared.entry.Entry.TheVariants.Revision}
+use Rattle.reorder_buffer.specs.{Watermarks.reached, Buffered.after_taking}
+use Rattle.replay_model.specs.{Records.Bytes, Replies.failed_event, Replies.failed_events, Play.nothing_played}
 use Rattle.replay_model.specs.ReplayState.{ReplayState, nothing_delivered}
 use Rattle.replay_model.specs.Versions.{all_by, is_holder, meaning_by}
-use Rattle.world.specs.Meaning.{meaning}
-use Rattle.world.specs.Roomed.{HasRoom}
-use Rattle.world.proofs.Rooming.{nothing_held}
-use Rattle.world.specs.WorldState.{WorldState}
-use Rattle.snapshot.specs.declared.line.Head.{Head}
-use Rattle.snapshot.specs.Whole.{beginning, noting}
-use Rattle.checkpoint.specs.declared.loader.Stage.TheVariants.{Unbegun, Begun, Ended}
-use Rattle.checkpoint.specs.declared.numbers.Numbers.{Numbers}
+use Rattle.world.specs.{Restoring.MayStand, Restoring.restored, Roomed.HasRoom, WorldState.WorldState}
+use Rattle.world.proofs.{PuttingIn.documents_put, Starting.no_documents, Rooming.nothing_held}
+use Rattle.fetched_pages.specs.Meaning.{meaning}
+use Rattle.snapshot.specs.{declared.line.Head.Head, Whole.beginning, Whole.noting, declared.counts.Counts.Counts}
+use Rattle.checkpoint.specs.declared.loader.Stage.TheVariants.{Unbegun, Begun}
 use Rattle.checkpoint.specs.Loading.{HasReachedFailed, HoldsDocuments, IsReady, IsResting, may_note}
 use Rattle.checkpoint.specs.Saved.{AreWithin}
 use Rattle.checkpoint.proofs.Rests.{mark-taking, rests-empty, rests-taking}
@@ -73,8 +58,8 @@ new_ready room = record {
 abbrev pub with_head : WorldState → Head → WorldState
 with_head w h = record w { replay = (beginning h).state; mapping = h.mapping }
 
-pub head_ready : (old new : WorldState) (n number : ℕ) (h : Head) (numbers : Numbers) → IsReady old Unbegun n → new ≡ with_head old h → AreWithin numbers → IsReady new (Begun numbers) number
-head_ready old new n number h numbers ready is within = subst (λ (w : WorldState). IsReady w (Begun numbers) number) (sym is) (record {
+pub head_ready : (old new : WorldState) (n number : ℕ) (h : Head) (counts : Counts) → IsReady old Unbegun n → new ≡ with_head old h → AreWithin counts → IsReady new (Begun counts) number
+head_ready old new n number h counts ready is within = subst (λ (w : WorldState). IsReady w (Begun counts) number) (sym is) (record {
   fresh = tt;
   by_one = ready.by_one ∙ ap (λ (r : ReplayState). all_by old.mapping r.played.records) ready.fresh.0 ∙ all_by-empty old.mapping ∙ sym (all_by-empty h.mapping);
   resting = rests-empty h.horizon h.mark;
@@ -89,8 +74,8 @@ head_ready old new n number h numbers ready is within = subst (λ (w : WorldStat
 abbrev pub with_event : WorldState → Event → WorldState
 with_event w e = record w { replay = record w.replay { buffer = after_taking w.replay.buffer e } }
 
-pub event_ready : (old new : WorldState) (numbers : Numbers) (n number : ℕ) (e : Event) → IsReady old (Begun numbers) n → new ≡ with_event old e → IsReady new (Begun numbers) number
-event_ready old new numbers n number e ready is = subst (λ (w : WorldState). IsReady w (Begun numbers) number) (sym is) (record {
+pub event_ready : (old new : WorldState) (counts : Counts) (n number : ℕ) (e : Event) → IsReady old (Begun counts) n → new ≡ with_event old e → IsReady new (Begun counts) number
+event_ready old new counts n number e ready is = subst (λ (w : WorldState). IsReady w (Begun counts) number) (sym is) (record {
   fresh = tt;
   by_one = ready.by_one;
   resting = rests-taking old.replay.buffer e ready.resting;
@@ -125,9 +110,9 @@ reached_both mark side entry before one q there =
 abbrev pub with_entry : WorldState → Entry → WorldState
 with_entry w entry = record w { replay = noting w.replay entry }
 
-pub entry_ready : (old new : WorldState) (numbers : Numbers) (n number : ℕ) (entry : Entry) → IsReady old (Begun numbers) n → may_note old.replay.buffer.mark entry ≡ true → new ≡ with_entry old entry
-    → IsReady new (Begun numbers) number
-entry_ready old new numbers n number entry ready may is = subst (λ (w : WorldState). IsReady w (Begun numbers) number) (sym is) (record {
+pub entry_ready : (old new : WorldState) (counts : Counts) (n number : ℕ) (entry : Entry) → IsReady old (Begun counts) n → may_note old.replay.buffer.mark entry ≡ true → new ≡ with_entry old entry
+    → IsReady new (Begun counts) number
+entry_ready old new counts n number entry ready may is = subst (λ (w : WorldState). IsReady w (Begun counts) number) (sym is) (record {
   fresh = tt;
   by_one = ready.by_one;
   resting = ready.resting;
@@ -139,27 +124,14 @@ entry_ready old new numbers n number entry ready may is = subst (λ (w : WorldSt
 
 -- ---- the record of an entity
 
-pub record_ready : (old new : WorldState) (numbers : Numbers) (n number : ℕ) (x : EntityId) (r : Record Bytes) → IsReady old (Begun numbers) n → MayStand old.replay.played.side x r
-    → new ≡ restored old x r → new.by_two ≡ all_by new.mapping new.replay.played.records → HasRoom (meaning_by meaning new.by_two) new.limit new.replay.played.records → IsReady new (Begun numbers) number
-record_ready old new numbers n number x r ready may is by_one held = record {
+pub record_ready : (old new : WorldState) (counts : Counts) (n number : ℕ) (x : EntityId) (r : Record Bytes) → IsReady old (Begun counts) n → MayStand old.replay.played.side x r
+    → new ≡ restored old x r → new.by_two ≡ all_by new.mapping new.replay.played.records → HasRoom (meaning_by meaning new.by_two) new.limit new.replay.played.records → IsReady new (Begun counts) number
+record_ready old new counts n number x r ready may is by_one held = record {
   fresh = tt;
   by_one = by_one;
   resting = subst (λ (w : WorldState). IsResting w.replay.buffer) (sym is) ready.resting;
   failed = subst (λ (w : WorldState). HasReachedFailed w.replay.buffer.mark w.replay.played.side) (sym is) ready.failed;
   documents = subst (λ (w : WorldState). HoldsDocuments w.replay.played.records) (sym is) (documents_put old.replay.played.records x r ready.documents may.document);
   held = held;
-  within = ready.within;
-}
-
--- ---- the end
-
-pub end_ready : (w : WorldState) (numbers : Numbers) (n number : ℕ) → IsReady w (Begun numbers) n → IsReady w (Ended numbers) number
-end_ready w numbers n number ready = record {
-  fresh = tt;
-  by_one = ready.by_one;
-  resting = ready.resting;
-  failed = ready.failed;
-  documents = ready.documents;
-  held = ready.held;
   within = ready.within;
 }

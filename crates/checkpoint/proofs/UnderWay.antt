@@ -6,16 +6,13 @@ use Rattle.wq_io.specs.Lines.{GoesOn, HasCause as HasReadCause, IsSound, Reading
 use Rattle.wq_io.specs.declared.lines.LineFault.{LineFault}
 use Rattle.wq_io.specs.declared.lines.LineFault.TheVariants.{ReadFault as NotRead, TooLong as OverLong, LineLong, OutOfMemory as LineOutOfMemory}
 use Rattle.world.specs.WorldState.{WorldState}
-use Rattle.snapshot.specs.File.{saved_in_bytes}
-use Rattle.snapshot.specs.Whole.{whole}
+use Rattle.snapshot.specs.{File.saved_in_bytes, Whole.whole, declared.counts.Counts.Counts}
 use Rattle.checkpoint.specs.declared.fault.LoadFault.{LoadFault}
 use Rattle.checkpoint.specs.declared.fault.LoadFault.TheVariants.{ReadFault, TooLong, BadLine, Full, OutOfMemory}
 use Rattle.checkpoint.specs.declared.loader.Stage.{Stage}
 use Rattle.checkpoint.specs.declared.loader.Stage.TheVariants.{Unbegun, Ended}
-use Rattle.checkpoint.specs.declared.numbers.Numbers.{Numbers}
-use Rattle.checkpoint.specs.Causes.{HasCause, IsUnended, longest_file, longest_line}
-use Rattle.checkpoint.specs.Fault.{fault_of}
-use Rattle.checkpoint.specs.Loading.{IsReady, IsRefused, Overfills, LoadsLine, loading_of}
+use Rattle.checkpoint.specs.{Causes.HasCause, Causes.IsUnended, Causes.longest_file, Fault.fault_of}
+use Rattle.checkpoint.specs.Loading.{IsReady, IsRefused, Overfills, LoadsLine, loading_of, longest_line}
 use Rattle.checkpoint.specs.Saved.{saved_of}
 use Rattle.checkpoint.proofs.Progress.{IsNextLine, Progress, ends_early, full_line, line_read, nothing_read, over_long, refused_line, saved, too_long, unended}
 
@@ -57,7 +54,7 @@ goes_on room start left left_next reader next w w2 stage stage2 given number n m
     let before : number - 1 ≡ given = omega arith in
     record {
       progress = line_read start left left_next reader next (loading_of w stage given) (loading_of w2 stage2 number) n m text u.progress is
-          (subst (λ k. LoadsLine text (loading_of w stage k) (loading_of w2 stage2 number)) before takes) longer;
+          (subst (λ k. LoadsLine text (loading_of w stage k) (loading_of w2 stage2 number)) before takes) (subst (λ k. length text ≤ k) u.max_line goes.short) longer;
       ready = ready;
       limit = limit ∙ u.limit;
       given_is = next_is ∙ ap (λ k. k + 1) u.given_is ∙ sym is.given;
@@ -83,6 +80,7 @@ none_left room start left left_next reader next w stage given n text u same tota
     items = u.progress.items;
     are = u.progress.are;
     lead = u.progress.lead;
+    readable = u.progress.readable;
     measured = u.progress.measured;
   };
   ready = u.ready;
@@ -144,14 +142,14 @@ unended_stops room (Some bytes) left reader w stage given n u at_end other first
 
 -- the lines end before the snapshot does
 pub early_stops : (room : ℕ) (start left : Option (List ℕ)) (reader : Reading) (w : WorldState) (stage : Stage) (given n : ℕ) → UnderWay room start reader left w stage given n
-    → IsAtEnd (unread reader left) → whole (loading_of w stage given) ≡ None → (first now : ℕ) → HasCause (BadLine (given + 1)) room start first now
-early_stops room None left reader w stage given n u at_end short first now = tt
-early_stops room (Some bytes) left reader w stage given n u at_end short first now =
-    inr (inl (ends_early bytes left reader (loading_of w stage given) n u.progress at_end (given + 1) (ap (λ k. k + 1) u.given_is) short))
+    → IsAtEnd (unread reader left) → taken reader ≡ n → whole (loading_of w stage given) ≡ None → (first now : ℕ) → HasCause (BadLine (given + 1)) room start first now
+early_stops room None left reader w stage given n u at_end same short first now = tt
+early_stops room (Some bytes) left reader w stage given n u at_end same short first now =
+    inr (inl (ends_early bytes left reader (loading_of w stage given) n u.progress at_end u.sound u.max_bytes same (given + 1) (ap (λ k. k + 1) u.given_is) short))
 
 -- the snapshot is whole
-pub all_loaded : (room : ℕ) (start left : Option (List ℕ)) (reader : Reading) (w : WorldState) (stage : Stage) (numbers : Numbers) (given n : ℕ) → UnderWay room start reader left w stage given n
-    → IsAtEnd (unread reader left) → taken reader ≡ n → stage ≡ Ended numbers → IfSome start (λ bytes. saved_in_bytes bytes ≡ Some (saved_of w numbers))
-all_loaded room None left reader w stage numbers given n u at_end same is = tt
-all_loaded room (Some bytes) left reader w stage numbers given n u at_end same is =
+pub all_loaded : (room : ℕ) (start left : Option (List ℕ)) (reader : Reading) (w : WorldState) (stage : Stage) (counts : Counts) (given n : ℕ) → UnderWay room start reader left w stage given n
+    → IsAtEnd (unread reader left) → taken reader ≡ n → stage ≡ Ended counts → IfSome start (λ bytes. saved_in_bytes bytes ≡ Some (saved_of w counts))
+all_loaded room None left reader w stage counts given n u at_end same is = tt
+all_loaded room (Some bytes) left reader w stage counts given n u at_end same is =
     saved bytes left reader (loading_of w stage given) n u.progress at_end u.sound u.max_bytes same ∙ ap (λ (s : Stage). whole (loading_of w s given)) is

@@ -1,22 +1,16 @@
 -- Why a file isn't loaded.
-use Rattle.std.specs.Prelude.{◌≡◌, ⊤, ◌⊎◌, ℕ, ◌+◌, ◌<◌, List, ◌∷◌, length, Option, None, IfSome}
-use Rattle.wq_io.specs.Lines.{lines}
-use Rattle.wq_io.specs.Streams.{Rose}
+use Rattle.std.specs.Prelude.{◌≡◌, ⊤, ◌⊎◌, ℕ, ◌+◌, ◌<◌, List, ◌∷◌, length, Option, None, Some, IfSome}
+use Rattle.wq_io.specs.{Lines.lines, Streams.Rose}
 use Rattle.world.specs.WorldState.{WorldState}
-use Rattle.snapshot.specs.File.{feeds}
-use Rattle.snapshot.specs.Whole.{Loading, whole}
+use Rattle.snapshot.specs.{File.feeds, Whole.Loading, Whole.whole}
 use Rattle.checkpoint.specs.declared.fault.LoadFault.{LoadFault}
 use Rattle.checkpoint.specs.declared.fault.LoadFault.TheVariants.{ReadFault, TooLong, BadLine, Full, OutOfMemory}
 use Rattle.checkpoint.specs.declared.loader.Stage.{Stage}
-use Rattle.checkpoint.specs.Loading.{BeginsWith, IsReady, IsRefused, Overfills, loading_of}
+use Rattle.checkpoint.specs.Loading.{BeginsWith, IsReady, IsRefused, Overfills, loading_of, longest_line}
 
--- the most bytes that a file may have, and that a line may have without its line feed: a page has at most 8,388,608, of which each is at
--- most six in JSON
+-- the most bytes that a file may have
 abbrev pub longest_file : ℕ
 longest_file = 1099511627776
-
-abbrev pub longest_line : ℕ
-longest_line = 67108864
 
 -- the line with this number is refused behind those before it, or is over-long
 pub record IsBadSnapshotLine (bytes : List ℕ) (number : ℕ) : Type 0 where
@@ -29,15 +23,18 @@ pub record IsBadSnapshotLine (bytes : List ℕ) (number : ℕ) : Type 0 where
   pub next : first.others ≡ line ∷ others
   pub refused : IsRefused line loading ⊎ (longest_line < length line)
 
--- the lines end before the last one of a snapshot; the number is one more than theirs
+-- each line may come, and a line feed ends it, but they end before the last one of a snapshot; the number is one more than theirs
 pub record EndsEarly (bytes : List ℕ) (number : ℕ) : Type 0 where
   pub loading : Loading
   pub all : BeginsWith bytes (lines bytes) loading
+  pub ended : feeds bytes ≡ Some (lines bytes)
   pub unended : whole loading ≡ None
   pub counted : number ≡ length (lines bytes) + 1
 
--- the last line, which has this number, isn't ended by a line feed
+-- each line may come, but the last one, which has this number, isn't ended by a line feed
 pub record IsUnended (bytes : List ℕ) (number : ℕ) : Type 0 where
+  pub loading : Loading
+  pub all : BeginsWith bytes (lines bytes) loading
   pub unended : feeds bytes ≡ None
   pub counted : number ≡ length (lines bytes)
 
@@ -57,7 +54,7 @@ pub record IsFileOverfull (room : ℕ) (bytes : List ℕ) : Type 0 where
   pub next : first.others ≡ line ∷ others
   pub over : Overfills line world
 
--- why a file isn't loaded, where its bytes are known
+-- why a file isn't loaded, where its bytes are known. The first line that is refused decides, since each line before it may come
 abbrev pub HasCause : LoadFault → ℕ → Option (List ℕ) → ℕ → ℕ → Type 0
 HasCause ReadFault room left before now = Rose before now
 HasCause TooLong room left before now = IfSome left (λ bytes. longest_file < length bytes)

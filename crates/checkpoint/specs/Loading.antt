@@ -1,50 +1,38 @@
 -- The lines of a snapshot that go into a world one after the other.
-use Rattle.std.specs.Prelude.{◌≡◌, ⊤, ◌⊎◌, ℕ, ℤ, ◌<◌, Bool, true, false, List, [], ◌∷◌, ◌++◌, Option, None, Some}
+use Rattle.std.specs.Prelude.{◌≡◌, ⊤, ◌⊎◌, ℕ, ℤ, ◌<◌, ◌≤◌, Bool, true, false, List, [], ◌∷◌, ◌++◌, length, Option, None, Some}
 use Rattle.std.specs.Str.{IsUtf8}
-use Rattle.entity_model.specs.declared.id.EntityId.{EntityId}
-use Rattle.entity_model.specs.declared.event.Event.{Event}
-use Rattle.entity_model.specs.Event.{event_cmp}
-use Rattle.reorder_buffer.specs.Buffered.{Buffered, first_due}
-use Rattle.reorder_buffer.specs.Watermarks.{reached}
-use Rattle.sorted_sets.specs.Rising.{IsRising, has}
+use Rattle.entity_model.specs.{declared.id.EntityId.EntityId, declared.event.Event.Event, Event.event_cmp}
+use Rattle.reorder_buffer.specs.{Buffered.Buffered, Buffered.first_due, Watermarks.reached}
+use Rattle.sorted_sets.specs.Rising.{Each, IsRising, has}
 use Rattle.side_output.specs.declared.entry.Cause.TheVariants.{Missing, Failed, Unfit}
-use Rattle.side_output.specs.declared.entry.Entry.{Entry}
-use Rattle.side_output.specs.declared.entry.Entry.TheVariants.{Late, Revision}
-use Rattle.replay_model.specs.Entries.{HoldsUnlessOpen}
-use Rattle.replay_model.specs.Explained.{is_applied}
-use Rattle.replay_model.specs.Replies.{HoldsDocument, failed_events}
-use Rattle.replay_model.specs.Records.{Records, record_of}
-use Rattle.entity_json.specs.Document.{unfit_of}
-use Rattle.replay_model.specs.ReplayState.{nothing_delivered}
-use Rattle.replay_model.specs.Union.{triples_held}
+use Rattle.side_output.specs.{declared.entry.Entry.Entry, declared.entry.Entry.TheVariants.Late, declared.entry.Entry.TheVariants.Revision}
+use Rattle.replay_model.specs.{Entries.HoldsUnlessOpen, Explained.is_applied, Replies.HoldsDocument, Replies.failed_events}
+use Rattle.replay_model.specs.{Records.Records, Records.record_of, ReplayState.nothing_delivered, Union.triples_held}
 use Rattle.replay_model.specs.Versions.{all_by, meaning_by}
+use Rattle.entity_json.specs.Document.{unfit_of}
 use Rattle.wq_io.specs.Lines.{lines}
-use Rattle.world.specs.Meaning.{meaning}
-use Rattle.world.specs.Restoring.{MayStand}
-use Rattle.world.specs.Roomed.{HasRoom, room_with}
-use Rattle.world.specs.WorldState.{WorldState}
+use Rattle.fetched_pages.specs.Meaning.{meaning}
+use Rattle.world.specs.{Restoring.MayStand, Roomed.HasRoom, Roomed.room_with, WorldState.WorldState}
 use Rattle.snapshot.specs.declared.line.Line.{Line}
 use Rattle.snapshot.specs.declared.line.Line.TheVariants.{Head as Begins, Remembered, Entity, Side, End}
-use Rattle.snapshot.specs.File.{IsFitSaved, lines_in}
-use Rattle.snapshot.specs.Waiting.{IsAtRest}
-use Rattle.snapshot.specs.LineText.{line_of}
+use Rattle.snapshot.specs.{File.IsFitSaved, File.lines_in, Waiting.IsAtRest, LineText.line_of}
 use Rattle.snapshot.specs.Whole.{Loading, unbegun, begun, ended as whole_of, after_line, beginning}
+use Rattle.snapshot.specs.declared.counts.Counts.{Counts}
 use Rattle.checkpoint.specs.declared.loader.Stage.{Stage}
 use Rattle.checkpoint.specs.declared.loader.Stage.TheVariants.{Unbegun, Begun, Ended}
-use Rattle.checkpoint.specs.declared.numbers.Numbers.{Numbers}
-use Rattle.checkpoint.specs.Saved.{AreWithin, numbers_of, saved_of}
+use Rattle.checkpoint.specs.Saved.{AreWithin, saved_of}
 
 -- what the lines so far keep, where they put this world together, and so many were taken
 abbrev pub loading_of : WorldState → Stage → ℕ → Loading
 loading_of w Unbegun n = unbegun
-loading_of w (Begun numbers) n = begun (saved_of w numbers) n
-loading_of w (Ended numbers) n = whole_of (saved_of w numbers)
+loading_of w (Begun counts) n = begun (saved_of w counts) n
+loading_of w (Ended counts) n = whole_of (saved_of w counts)
 
 -- before the first line nothing was delivered
 abbrev pub IsFresh : WorldState → Stage → ℕ → Type 0
 IsFresh w Unbegun n = (w.replay ≡ nothing_delivered) × (n ≡ 0)
-IsFresh w (Begun numbers) n = ⊤
-IsFresh w (Ended numbers) n = ⊤
+IsFresh w (Begun counts) n = ⊤
+IsFresh w (Ended counts) n = ⊤
 
 -- a buffer between two lines of an input: more events may come, those that wait are in order, and none is due
 pub record IsResting (b : Buffered) : Type 0 where
@@ -55,8 +43,8 @@ pub record IsResting (b : Buffered) : Type 0 where
 -- once the head was taken, its counts are within
 abbrev pub AreStageWithin : Stage → Type 0
 AreStageWithin Unbegun = ⊤
-AreStageWithin (Begun numbers) = AreWithin numbers
-AreStageWithin (Ended numbers) = AreWithin numbers
+AreStageWithin (Begun counts) = AreWithin counts
+AreStageWithin (Ended counts) = AreWithin counts
 
 -- the mark reached each event of which the side output says that a fetch for it failed
 abbrev pub HasReachedFailed : Option ℤ → List Entry → Type 0
@@ -67,10 +55,10 @@ abbrev pub HoldsDocuments : Records → Type 0
 HoldsDocuments records = (x : EntityId) → HoldsDocument unfit_of x (record_of records x).held
 
 -- a world that a replay may have between two lines of its input
-pub record IsLoadable (w : WorldState) (numbers : Numbers) : Type 0 where
+pub record IsLoadable (w : WorldState) (counts : Counts) : Type 0 where
   -- the remembered events that wait are those that the mark hasn't reached
   pub rests : IsAtRest w.replay.buffer
-  pub fits : IsFitSaved (saved_of w numbers)
+  pub fits : IsFitSaved (saved_of w counts)
   -- every page is mapped by the version in force
   pub by_one : w.by_two ≡ all_by w.mapping w.replay.played.records
   -- fetches failed only for applied events
@@ -79,7 +67,7 @@ pub record IsLoadable (w : WorldState) (numbers : Numbers) : Type 0 where
   pub holds : HoldsUnlessOpen w.replay.played
   -- what is held are documents
   pub documents : HoldsDocuments w.replay.played.records
-  pub within : AreWithin numbers
+  pub within : AreWithin counts
 
 -- the world took so many lines, and may take more: every page is mapped by the version in force, no event is due, fetches failed only for
 -- events that the mark reached, what is held are documents and has room, and the counts are within
@@ -107,7 +95,7 @@ MayCome (begun s n) (Begins h) = ⊤
 MayCome (begun s n) (Remembered e) = ⊤
 MayCome (begun s n) (Side entry) = may_note s.state.buffer.mark entry ≡ true
 MayCome (begun s n) (End m) = ⊤
-MayCome unbegun (Begins h) = AreWithin (numbers_of (beginning h))
+MayCome unbegun (Begins h) = AreWithin h.counts
 MayCome unbegun (Entity x r) = ⊤
 MayCome unbegun (Remembered e) = ⊤
 MayCome unbegun (Side entry) = ⊤
@@ -119,10 +107,20 @@ abbrev pub Leads : Loading → List Line → Loading → Type 0
 Leads here [] there = here ≡ there
 Leads here (line ∷ others) there = MayCome here line × ((next : Loading) × (after_line here line ≡ Some next) × Leads next others there)
 
--- the bytes begin with these lines, which lead here
+-- the most bytes that a line may have without its line feed: a page has at most 8,388,608, of which each is at most six in JSON
+abbrev pub longest_line : ℕ
+longest_line = 67108864
+
+-- the text may be read as a line: it is UTF-8, and isn't over-long
+pub record IsReadable (text : List ℕ) : Type 0 where
+  pub utf8 : IsUtf8 text
+  pub short : length text ≤ longest_line
+
+-- the bytes begin with these lines, which may be read, and lead here
 pub record BeginsWith (bytes : List ℕ) (done : List (List ℕ)) (loading : Loading) : Type 0 where
   pub others : List (List ℕ)
   pub are : lines bytes ≡ done ++ others
+  pub readable : Each IsReadable done
   pub items : List Line
   pub read : lines_in done ≡ Some items
   pub lead : Leads unbegun items loading
@@ -141,6 +139,7 @@ IsOutOfPlace loading line = (after_line loading line ≡ None) ⊎ ¬ (MayCome l
 
 -- the text is a line that may come now, and leads there
 pub record LoadsLine (text : List ℕ) (before now : Loading) : Type 0 where
+  pub utf8 : IsUtf8 text
   pub item : Line
   pub read : line_of text ≡ Some item
   pub comes : MayCome before item

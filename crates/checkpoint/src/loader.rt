@@ -1,35 +1,38 @@
 // A world that is put together line by line.
 
-ghost use Rattle.std.specs.Prelude.{◌≡◌, ℕ, ◌-◌, ◌≤◌, true, [], Some, IfOk, IsErrOf, OnErr, OnOk};
+ghost use Rattle.std.specs.Prelude.{◌≡◌, ◌↔◌, ℕ, ◌-◌, ◌≤◌, true, [], Some, IfOk, IsErrOf, OnErr, OnOk};
 ghost use Rattle.replay_model.specs.{Play.nothing_played, ReplayState.nothing_delivered, ReplayState.nothing_delivered_within};
 ghost use Rattle.replay_model.specs.Versions.{all_by, meaning_by};
-ghost use Rattle.world.specs.{Meaning.meaning, Roomed.HasRoom, Restoring.MayStand, Restoring.restored};
+ghost use Rattle.fetched_pages.specs.Meaning.{meaning};
+ghost use Rattle.world.specs.{Roomed.HasRoom, Restoring.MayStand, Restoring.restored};
 ghost use Rattle.snapshot.specs.{declared.line.Line.TheVariants.Entity, Waiting.at_mark, Whole.after_line, Whole.beginning, Whole.noting};
 ghost use Rattle.reorder_buffer.specs.Watermarks.{reached};
 ghost use Rattle.checkpoint.specs.Loading.{HasNoRoomForLine, IsOutOfPlace, IsReady, MayCome, loading_of, may_note};
-ghost use Rattle.checkpoint.specs.Saved.{numbers_of};
+ghost use Rattle.checkpoint.specs.Saved.{AreWithin};
 ghost use Rattle.checkpoint.specs.declared.fault.LoadFault.TheVariants.{BadLine, Full, ReadFault, TooLong};
 
 use crate::fault::LoadFault;
-use crate::numbers::Numbers;
 use entity_model::EntityId;
 use entity_state::Record;
 use rdf_term::{OutOfMemory, Text};
 use side_output::{Cause, Entry};
-use snapshot::{Head, Line, replays_can_be_saved};
+use snapshot::{Counts, Head, Line, replays_can_be_saved};
 use std::alloc::Global;
 use std::hash::RandomState;
 use world::{RestoreFault, World};
+
+/// The greatest count with which a run may go on: it leaves a number for each question, record and line to come.
+const MOST: u64 = 9_223_372_036_854_775_808;
 
 /// How far the lines of a snapshot have come.
 #[derive(Clone, Copy)]
 pub enum Stage {
     /// The head is still to come.
     Unbegun,
-    /// The head was taken, and with it these numbers.
-    Begun(Numbers),
+    /// The head was taken, and with it these counts.
+    Begun(Counts),
     /// The last line was taken.
-    Ended(Numbers),
+    Ended(Counts),
 }
 
 /// The world that the lines so far put together.
@@ -67,7 +70,7 @@ impl Loader {
     {
         match (self.stage, line) {
             (Stage::Unbegun, Line::Head(head)) => {
-                if !Numbers::of_head(head).are_within() {
+                if !are_within(head.counts) {
                     return Err(LoadFault::BadLine(number));
                 }
                 self.begin(head);
@@ -81,8 +84,8 @@ impl Loader {
                 entity,
                 number,
             ),
-            (Stage::Begun(numbers), Line::End(lines)) if lines == number - 1 => {
-                self.stage = Stage::Ended(numbers);
+            (Stage::Begun(counts), Line::End(lines)) if lines == number - 1 => {
+                self.stage = Stage::Ended(counts);
                 Ok(())
             }
             (_, line) => {
@@ -96,13 +99,20 @@ impl Loader {
     fn begin(&mut self, head: Head)
         requires { self.old.world.replay ≡ nothing_delivered }
         ensures world { self.new.world ≡ record self.old.world { replay = (beginning head).state; mapping = head.mapping } }
-        ensures stage { self.new.stage ≡ Stage.Begun (numbers_of (beginning head)) }
+        ensures stage { self.new.stage ≡ Stage.Begun head.counts }
     {
         self.world.set_mapping(head.mapping);
         set_horizon(&mut self.world, head.horizon);
         set_mark(&mut self.world, head.mark);
-        self.stage = Stage::Begun(Numbers::of_head(head));
+        self.stage = Stage::Begun(head.counts);
     }
+}
+
+// Whether a run may go on with these counts.
+fn are_within(counts: Counts) -> bool
+    ensures { (result ≡ true) ↔ AreWithin counts }
+{
+    counts.asks <= MOST && counts.matches <= MOST && counts.patches <= MOST && counts.lines <= MOST
 }
 
 // Sets the horizon, if there is one. Nothing was delivered yet.

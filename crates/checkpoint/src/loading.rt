@@ -6,7 +6,8 @@ ghost use Rattle.wq_io.specs.Streams.{IsAtEnd};
 ghost use Rattle.entity_model.specs.{Event.event_cmp, declared.event.Event.Event};
 ghost use Rattle.replay_model.specs.{Explained.is_applied, Replies.failed_events, Versions.meaning_by};
 ghost use Rattle.sorted_sets.specs.Rising.{has};
-ghost use Rattle.world.specs.{Meaning.meaning, Roomed.HasRoom, WorldState.WorldState};
+ghost use Rattle.fetched_pages.specs.Meaning.{meaning};
+ghost use Rattle.world.specs.{Roomed.HasRoom, WorldState.WorldState};
 ghost use Rattle.snapshot.specs.{File.saved_in_bytes, LineText.line_of, Whole.whole};
 ghost use Rattle.checkpoint.specs.Causes.{HasCause};
 ghost use Rattle.checkpoint.specs.Loading.{HoldsDocuments, IsReady, IsRefused, IsResting, Overfills, LoadsLine, loading_of};
@@ -16,8 +17,7 @@ ghost use Rattle.checkpoint.specs.declared.loader.Stage.TheVariants.{Ended, Unbe
 
 use crate::fault::LoadFault;
 use crate::loader::{Loader, Stage};
-use crate::numbers::Numbers;
-use snapshot::{Line, read};
+use snapshot::{Counts, Line, read};
 use std::alloc::Global;
 use std::hash::RandomState;
 use std::str;
@@ -34,7 +34,7 @@ const LONGEST_LINE: u64 = 67_108_864;
 #[derive(Drop)]
 pub struct Loaded {
     pub world: World,
-    pub numbers: Numbers,
+    pub counts: Counts,
 }
 
 /// Reads a snapshot into a new world with room for so many terms: the world that was saved, every page mapped by the version in force,
@@ -51,13 +51,13 @@ pub fn load<S: Source>(
     room: u32,
     file: &mut S,
 ) -> Result<Loaded, LoadFault>
-    ensures saved { IfOk result (λ loaded. IfSome (S.left file.old) (λ bytes. saved_in_bytes bytes ≡ Some (saved_of loaded.world loaded.numbers))) }
-    ensures world { IfOk result (λ loaded. loaded.world ≡ world_of room (saved_of loaded.world loaded.numbers)) }
+    ensures saved { IfOk result (λ loaded. IfSome (S.left file.old) (λ bytes. saved_in_bytes bytes ≡ Some (saved_of loaded.world loaded.counts))) }
+    ensures world { IfOk result (λ loaded. loaded.world ≡ world_of room (saved_of loaded.world loaded.counts)) }
     ensures rests { IfOk result (λ loaded. IsResting loaded.world.replay.buffer) }
     ensures applied { IfOk result (λ loaded. (e : Event) → has event_cmp e (failed_events loaded.world.replay.played.side) ≡ true → is_applied loaded.world.replay e ≡ true) }
     ensures documents { IfOk result (λ loaded. HoldsDocuments loaded.world.replay.played.records) }
     ensures held { IfOk result (λ loaded. HasRoom (meaning_by meaning loaded.world.by_two) loaded.world.limit loaded.world.replay.played.records) }
-    ensures counts { IfOk result (λ loaded. AreWithin loaded.numbers) }
+    ensures counts { IfOk result (λ loaded. AreWithin loaded.counts) }
     ensures whole { OnOk result (IsAtEnd (S.left file.new)) }
     ensures fault { IfErr result (λ fault. HasCause fault room (S.left file.old) (S.faults file.old) (S.faults file.new)) }
     ensures later { S.faults file.old ≤ S.faults file.new }
@@ -65,9 +65,9 @@ pub fn load<S: Source>(
 {
     let mut loader = Loader::new(alloc, keys, room)?;
     match load_lines(alloc, file, &mut loader) {
-        Ok(numbers) => Ok(Loaded {
+        Ok(counts) => Ok(Loaded {
             world: loader.world,
-            numbers,
+            counts,
         }),
         Err(fault) => Err(fault),
     }
@@ -78,11 +78,11 @@ fn load_lines<S: Source>(
     alloc: Global,
     file: &mut S,
     loader: &mut Loader,
-) -> Result<Numbers, LoadFault>
+) -> Result<Counts, LoadFault>
     requires stage { loader.old.stage ≡ Unbegun }
     requires ready { IsReady loader.old.world loader.old.stage 0 }
-    ensures saved { IfOk result (λ numbers. IfSome (S.left file.old) (λ bytes. saved_in_bytes bytes ≡ Some (saved_of loader.new.world numbers))) }
-    ensures world { IfOk result (λ numbers. loader.new.world ≡ world_of loader.old.world.limit (saved_of loader.new.world numbers)) }
+    ensures saved { IfOk result (λ counts. IfSome (S.left file.old) (λ bytes. saved_in_bytes bytes ≡ Some (saved_of loader.new.world counts))) }
+    ensures world { IfOk result (λ counts. loader.new.world ≡ world_of loader.old.world.limit (saved_of loader.new.world counts)) }
     ensures rests { OnOk result (IsResting loader.new.world.replay.buffer) }
     ensures applied { OnOk result ((e : Event) → has event_cmp e (failed_events loader.new.world.replay.played.side) ≡ true → is_applied loader.new.world.replay e ≡ true) }
     ensures documents { OnOk result (HoldsDocuments loader.new.world.replay.played.records) }
@@ -105,23 +105,23 @@ fn load_lines<S: Source>(
     if lines.taken() != length {
         return Err(LoadFault::BadLine(given));
     }
-    match numbers_at_end(loader.stage, given) {
-        Ok(numbers) => Ok(numbers),
+    match counts_at_end(loader.stage, given) {
+        Ok(counts) => Ok(counts),
         Err(fault) => Err(fault),
     }
 }
 
 // The counts of the head, where the last of so many lines was taken.
-fn numbers_at_end(stage: Stage, given: u64) -> Result<Numbers, LoadFault>
+fn counts_at_end(stage: Stage, given: u64) -> Result<Counts, LoadFault>
     requires { given < 2 ^ 63 }
-    ensures numbers { IfOk result (λ numbers. stage ≡ Ended numbers) }
+    ensures counts { IfOk result (λ counts. stage ≡ Ended counts) }
     ensures fault { IfErr result (λ fault. fault ≡ BadLine (given + 1)) }
     ensures short { IfErr result (λ _. (w : WorldState) → whole (loading_of w stage given) ≡ None) }
 {
     match stage {
         Stage::Unbegun => Err(LoadFault::BadLine(given + 1)),
         Stage::Begun(_) => Err(LoadFault::BadLine(given + 1)),
-        Stage::Ended(numbers) => Ok(numbers),
+        Stage::Ended(counts) => Ok(counts),
     }
 }
 
@@ -152,6 +152,7 @@ fn take_line(alloc: Global, text: &[u8], number: u64, loader: &mut Loader) -> Re
 // Reads the line with this number.
 fn read_line(alloc: Global, text: &[u8], number: u64) -> Result<Line, LoadFault>
     ensures ok { IfOk result (λ line. line_of text.now ≡ Some line) }
+    ensures text { OnOk result (IsUtf8 text.now) }
     ensures bad { (n : ℕ) → IsErrOf result (BadLine n) → (n ≡ number) × (¬ (IsUtf8 text.now) ⊎ (line_of text.now ≡ None)) }
     ensures others { ¬ (IsErrOf result Full) × (¬ (IsErrOf result ReadFault) × ¬ (IsErrOf result TooLong)) }
 {

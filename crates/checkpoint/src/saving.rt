@@ -1,43 +1,74 @@
-// A world is written as a snapshot.
+// A world is written as a snapshot, which is kept.
 
 ghost use Rattle.std.specs.Prelude.{◌≡◌, ◌+◌, IfOk, flat_map, string_bytes};
 ghost use Rattle.replay_model.specs.Records.{record_of};
 ghost use Rattle.snapshot.specs.declared.line.Line.TheVariants.{Entity, Remembered, Side};
 ghost use Rattle.snapshot.specs.{File.file_text, Whole.head_of};
-ghost use Rattle.text_output.specs.Printing.{Prints, output};
-ghost use Rattle.checkpoint.specs.Saved.{ended, saved_of};
+ghost use Rattle.checkpoint.specs.{Archive.Keeps, Archive.Writes, Archive.archive, Saved.ended, Saved.saved_of};
 
-use crate::numbers::Numbers;
+use crate::snapshots::Snapshots;
 use entity_model::{EntityId, Event};
 use entity_state::{Held, Record};
 use rdf_term::{OutOfMemory, Text};
 use side_output::Entry;
-use snapshot::{Head, Line, documents_are_text, write};
+use snapshot::{Counts, Head, Line, documents_are_text, write};
 use std::alloc::Global;
 use std::str;
-use text_output::{Unwritten, write_all};
+use text_output::Unwritten;
 use world::World;
-use wq_io::Sink;
 
-/// Writes the snapshot of a world, line by line: the head with the numbers, the events that are remembered, the side output, the records
-/// with the pages that are held, and the number of lines. The version in force is that of every page; so the world is read back where
-/// every held page is mapped by it, and no event is due.
+/// Keeps the snapshot of a world, behind those that were kept before. The version in force is that of every page; so the world is read back
+/// where every held page is mapped by it, and no event is due.
 ///
 /// # Errors
-/// The output could not be written, or memory was refused: then a prefix of the snapshot was written, and nothing else.
-pub fn save<K: Sink>(
+/// The snapshot could not be written or kept, or memory was refused: then it isn't kept, what was written of it is let go, and those that
+/// were kept before are as they were.
+pub fn save<F: Snapshots>(
     alloc: Global,
     world: &World,
-    numbers: Numbers,
-    out: &mut K,
+    counts: Counts,
+    snapshots: &mut F,
 ) -> Result<(), Unwritten>
-    ensures { Prints (file_text (saved_of world.now numbers)) (output K.Sink out.old) (output K.Sink out.new) result }
+    ensures { Keeps (file_text (saved_of world.now counts)) (archive F.Snapshots snapshots.old) (archive F.Snapshots snapshots.new) result }
+{
+    match write_and_keep(alloc, world, counts, snapshots) {
+        Ok(()) => Ok(()),
+        Err(fault) => {
+            snapshots.discard();
+            Err(fault)
+        }
+    }
+}
+
+// Begins a snapshot, writes it whole, and keeps it.
+fn write_and_keep<F: Snapshots>(
+    alloc: Global,
+    world: &World,
+    counts: Counts,
+    snapshots: &mut F,
+) -> Result<(), Unwritten>
+    ensures { Keeps (file_text (saved_of world.now counts)) (archive F.Snapshots snapshots.old) (archive F.Snapshots snapshots.new) result }
+{
+    snapshots.begin()?;
+    write_lines(alloc, world, counts, snapshots)?;
+    snapshots.keep()
+}
+
+// Writes a snapshot line by line: the head with the counts, the events that are remembered, the side output, the records with the pages that
+// are held, and the number of lines.
+fn write_lines<F: Snapshots>(
+    alloc: Global,
+    world: &World,
+    counts: Counts,
+    out: &mut F,
+) -> Result<(), Unwritten>
+    ensures { Writes (file_text (saved_of world.now counts)) (archive F.Snapshots out.old) (archive F.Snapshots out.new) result }
 {
     let events = world.remembered()?;
     let ids = world.entities()?;
     let entries = world.entries();
     let lines = count_lines(events.len(), entries.len(), ids.len())?;
-    write_line(alloc, &Line::Head(head_of(world, numbers)), out)?;
+    write_line(alloc, &Line::Head(head_of(world, counts)), out)?;
     write_events(alloc, events.as_slice(), out)?;
     write_entries(alloc, entries, out)?;
     write_records(alloc, world, ids.as_slice(), out)?;
@@ -56,22 +87,20 @@ fn count_lines(events: usize, entries: usize, records: usize) -> Result<u64, Out
 }
 
 // What the first line says.
-fn head_of(world: &World, numbers: Numbers) -> Head
-    ensures { result ≡ head_of (saved_of world.now numbers) }
+fn head_of(world: &World, counts: Counts) -> Head
+    ensures { result ≡ head_of (saved_of world.now counts) }
 {
     Head {
         mark: world.mark(),
         horizon: world.horizon(),
         mapping: world.mapping(),
-        asks: numbers.asks,
-        matches: numbers.matches,
-        patches: numbers.patches,
+        counts,
     }
 }
 
 // Writes the line of each event.
-fn write_events<K: Sink>(alloc: Global, events: &[Event], out: &mut K) -> Result<(), Unwritten>
-    ensures { Prints (flat_map (λ e. ended (Remembered e)) events.now) (output K.Sink out.old) (output K.Sink out.new) result }
+fn write_events<F: Snapshots>(alloc: Global, events: &[Event], out: &mut F) -> Result<(), Unwritten>
+    ensures { Writes (flat_map (λ e. ended (Remembered e)) events.now) (archive F.Snapshots out.old) (archive F.Snapshots out.new) result }
 {
     for event in events {
         write_line(alloc, &Line::Remembered(*event), out)?;
@@ -80,8 +109,12 @@ fn write_events<K: Sink>(alloc: Global, events: &[Event], out: &mut K) -> Result
 }
 
 // Writes the line of each entry of the side output.
-fn write_entries<K: Sink>(alloc: Global, entries: &[Entry], out: &mut K) -> Result<(), Unwritten>
-    ensures { Prints (flat_map (λ e. ended (Side e)) entries.now) (output K.Sink out.old) (output K.Sink out.new) result }
+fn write_entries<F: Snapshots>(
+    alloc: Global,
+    entries: &[Entry],
+    out: &mut F,
+) -> Result<(), Unwritten>
+    ensures { Writes (flat_map (λ e. ended (Side e)) entries.now) (archive F.Snapshots out.old) (archive F.Snapshots out.new) result }
 {
     for entry in entries {
         write_line(alloc, &Line::Side(*entry), out)?;
@@ -90,14 +123,14 @@ fn write_entries<K: Sink>(alloc: Global, entries: &[Entry], out: &mut K) -> Resu
 }
 
 // Writes the line of the record of each of these entities.
-fn write_records<K: Sink>(
+fn write_records<F: Snapshots>(
     alloc: Global,
     world: &World,
     ids: &[EntityId],
-    out: &mut K,
+    out: &mut F,
 ) -> Result<(), Unwritten>
-    ensures { Prints (flat_map (λ x. ended (Entity x (record_of world.now.replay.played.records x))) ids.now)
-        (output K.Sink out.old) (output K.Sink out.new) result }
+    ensures { Writes (flat_map (λ x. ended (Entity x (record_of world.now.replay.played.records x))) ids.now)
+        (archive F.Snapshots out.old) (archive F.Snapshots out.new) result }
 {
     for id in ids {
         write_record(alloc, world, *id, out)?;
@@ -106,13 +139,13 @@ fn write_records<K: Sink>(
 }
 
 // Writes the line of the record of an entity. It has a copy of the page, which goes before the next one is made.
-fn write_record<K: Sink>(
+fn write_record<F: Snapshots>(
     alloc: Global,
     world: &World,
     id: EntityId,
-    out: &mut K,
+    out: &mut F,
 ) -> Result<(), Unwritten>
-    ensures { Prints (ended (Entity id (record_of world.now.replay.played.records id))) (output K.Sink out.old) (output K.Sink out.new) result }
+    ensures { Writes (ended (Entity id (record_of world.now.replay.played.records id))) (archive F.Snapshots out.old) (archive F.Snapshots out.new) result }
 {
     let entity = record_of(alloc, world, id)?;
     write_line(alloc, &Line::Entity(id, entity), out)
@@ -146,11 +179,11 @@ fn held_page(alloc: Global, world: &World, id: EntityId) -> Result<Option<Held<T
 }
 
 // Writes a line, and the line feed that ends it.
-fn write_line<K: Sink>(alloc: Global, line: &Line, out: &mut K) -> Result<(), Unwritten>
-    ensures { Prints (ended line.now) (output K.Sink out.old) (output K.Sink out.new) result }
+fn write_line<F: Snapshots>(alloc: Global, line: &Line, out: &mut F) -> Result<(), Unwritten>
+    ensures { Writes (ended line.now) (archive F.Snapshots out.old) (archive F.Snapshots out.new) result }
 {
     let text = line_and_feed(alloc, line)?;
-    write_all(text.as_bytes(), out)
+    out.write(text.as_bytes())
 }
 
 // The text of a line with its line feed.

@@ -1,3 +1,4 @@
 mod GivenBack
 mod Loadable
 mod LoadedRoom
+mod OneRefusal

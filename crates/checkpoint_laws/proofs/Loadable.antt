@@ -1,45 +1,31 @@
 -- The bytes that are written of a world which a replay may have are read line by line, and no line is refused.
 use Rattle.std.proofs.Common.{◌≡◌, ℕ, ℤ, ◌+◌, ◌<◌, T, Bool, true, false, cond, ◌||◌, List, [], ◌∷◌, ◌++◌, map, length, fold, Option, None, Some, unwrap_or, inl, inr, refl, sym, ◌∙◌, ap, ap₂, subst, arith, append_assoc}
 use Rattle.std.specs.Prelude.{◌⊎◌}
-use Rattle.std.specs.Str.{IsUtf8}
+use Rattle.std.specs.{Str.IsUtf8, FinMap.entries_sorted, FinMap.get-entries, FinMap.Entries.find, FinMap.Entries.is_sorted}
+use Rattle.std.specs.{Ordering.eq_by_cmp, Cmp.eq_by_cmp_equiv}
 use Rattle.std.specs.FinMap as finite
-use Rattle.std.specs.FinMap.{entries_sorted, get-entries}
-use Rattle.std.specs.FinMap.Entries.{find, is_sorted}
-use Rattle.std.specs.Ordering.{eq_by_cmp}
-use Rattle.std.specs.Cmp.{eq_by_cmp_equiv}
 use Rattle.sorted_sets.specs.Rising.{Each, has}
 use Rattle.sorted_sets.proofs.Bools.{and_left, or_true}
 use Rattle.wq_io.specs.Lines.{lines}
-use Rattle.entity_model.specs.declared.id.EntityId.{EntityId}
-use Rattle.entity_model.specs.declared.event.Event.{Event}
-use Rattle.entity_model.specs.EntityId.{entity_cmp, entity_cmp_total}
+use Rattle.entity_model.specs.{declared.id.EntityId.EntityId, declared.event.Event.Event, EntityId.entity_cmp, EntityId.entity_cmp_total}
 use Rattle.entity_model.specs.Event.{event_cmp, event_cmp_total}
-use Rattle.entity_state.specs.Record.{blank}
-use Rattle.entity_state.specs.declared.record.Record.{Record}
+use Rattle.entity_state.specs.{Record.blank, declared.record.Record.Record}
 use Rattle.side_output.specs.declared.entry.Cause.TheVariants.{Missing, Failed, Unfit}
-use Rattle.side_output.specs.declared.entry.Entry.{Entry}
-use Rattle.side_output.specs.declared.entry.Entry.TheVariants.{Late, Revision}
+use Rattle.side_output.specs.{declared.entry.Entry.Entry, declared.entry.Entry.TheVariants.Late, declared.entry.Entry.TheVariants.Revision}
 use Rattle.reorder_buffer.specs.Watermarks.{is_due, reached}
-use Rattle.replay_model.specs.Records.{Bytes, record_of}
-use Rattle.replay_model.specs.Replies.{failed_events}
-use Rattle.replay_model.specs.ReplayState.{ReplayState}
+use Rattle.replay_model.specs.{Records.Bytes, Records.record_of, Replies.failed_events, ReplayState.ReplayState}
 use Rattle.replay_model.proofs.ToldContents.{Each-append}
-use Rattle.world.specs.Restoring.{MayStand}
-use Rattle.world.specs.WorldState.{WorldState}
+use Rattle.world.specs.{Restoring.MayStand, WorldState.WorldState}
 use Rattle.snapshot.specs.declared.line.Line.{Line}
 use Rattle.snapshot.specs.declared.line.Line.TheVariants.{Remembered, Side, End}
-use Rattle.snapshot.specs.File.{file_text, lines_in}
-use Rattle.snapshot.specs.Fit.{HasDocument, IsFitLine}
-use Rattle.snapshot.specs.LineText.{line_of, line_text}
+use Rattle.snapshot.specs.{File.file_text, File.lines_in, Fit.HasDocument, Fit.IsFitLine, LineText.line_of, LineText.line_text}
 use Rattle.snapshot.specs.Whole.{Loading, Saved, unbegun, begun, ended as whole_of, after_line, beginning, entity_line, head_of, lines_before_end, noting, recording, remembering, snapshot_lines, whole}
-use Rattle.snapshot.proofs.FileBack.{feeds-ended, lines-ended, lines_back, lines_fit}
-use Rattle.snapshot.proofs.LineLength.{line_length}
-use Rattle.snapshot.proofs.LineTextBack.{line_text_back}
-use Rattle.snapshot.proofs.LineUtf8.{line_utf8}
+use Rattle.snapshot.specs.declared.counts.Counts.{Counts}
+use Rattle.snapshot.proofs.{FileBack.feeds-ended, FileBack.lines-ended, FileBack.lines_back, FileBack.lines_fit, LineLength.line_length}
+use Rattle.snapshot.proofs.{LineTextBack.line_text_back, LineUtf8.line_utf8}
 use Rattle.snapshot.proofs.WholeBack.{counted, kept_again, kept_in, lines_counted, not_before, noted_again, noted_in, recorded_in, same_count, same_state}
-use Rattle.checkpoint.specs.declared.numbers.Numbers.{Numbers}
-use Rattle.checkpoint.specs.Causes.{EndsEarly, IsBadSnapshotLine, IsNoSnapshot, IsUnended, longest_line}
-use Rattle.checkpoint.specs.Loading.{BeginsWith, HasReachedFailed, IsLoadable, IsOutOfPlace, IsRefused, Leads, MayCome, may_note}
+use Rattle.checkpoint.specs.Causes.{EndsEarly, IsBadSnapshotLine, IsNoSnapshot, IsUnended}
+use Rattle.checkpoint.specs.Loading.{BeginsWith, HasReachedFailed, IsLoadable, IsOutOfPlace, IsRefused, Leads, MayCome, longest_line, may_note}
 use Rattle.checkpoint.specs.Saved.{saved_of}
 
 -- ---- lines that lead from one place to another
@@ -63,7 +49,11 @@ pub record Comes (here : Loading) (item : Line) : Type 0 where
   pub next : Loading
   pub after : after_line here item ≡ Some next
 
-comes : (here : Loading) (front : List Line) (item : Line) (back : List Line) (there mid : Loading) → Leads here (front ++ item ∷ back) there → Leads here front mid → Comes mid item
+pub in_place : (loading : Loading) (item : Line) → Comes loading item → IsOutOfPlace loading item → ⊥
+in_place loading item here (inl none) = let never : Some here.next ≡ None = sym here.after ∙ none in cc
+in_place loading item here (inr may) = may here.may
+
+pub comes : (here : Loading) (front : List Line) (item : Line) (back : List Line) (there mid : Loading) → Leads here (front ++ item ∷ back) there → Leads here front mid → Comes mid item
 comes here [] item back there mid all lead = subst (λ (l : Loading). Comes l item) lead (record { may = all.0; next = all.1.0; after = all.1.1 })
 comes here (x ∷ front) item back there mid all lead =
     let same : all.1.0 ≡ lead.1.0 = next_same (after_line here x) all.1.0 lead.1.0 all.1.1 lead.1.1 in
@@ -168,9 +158,9 @@ each_front P (x ∷ xs) ys all = let rest = each_front P xs ys all.1 in ((all.0,
 
 -- ---- a world that may be saved
 
-module _ (w : WorldState) (numbers : Numbers) (is : IsLoadable w numbers) where
+module _ (w : WorldState) (counts : Counts) (is : IsLoadable w counts) where
   abbrev pub s : Saved
-  s = saved_of w numbers
+  s = saved_of w counts
 
   abbrev pub bytes : List ℕ
   bytes = file_text s
@@ -270,10 +260,6 @@ module _ (w : WorldState) (numbers : Numbers) (is : IsLoadable w numbers) where
         document = (each_front HasDocument cut.done (cut.next ∷ cut.todo) docs).1.0;
         here = comes unbegun cut.done cut.next cut.todo (whole_of s) loading (subst (λ ls. Leads unbegun ls (whole_of s)) cut.is lead) lead_to;
       }
-
-  in_place : (loading : Loading) (item : Line) → Comes loading item → IsOutOfPlace loading item → ⊥
-  in_place loading item here (inl none) = let never : Some here.next ≡ None = sym here.after ∙ none in cc
-  in_place loading item here (inr may) = may here.may
 
   not_refused : (loading : Loading) (text : List ℕ) → Next loading text → IsRefused text loading → ⊥
   not_refused loading text next (inl no_text) = no_text (subst IsUtf8 (sym next.text_is) (line_utf8 next.item next.document))

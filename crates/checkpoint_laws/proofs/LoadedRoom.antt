@@ -1,47 +1,36 @@
 -- Where the bytes of a saved world have no room, the triples of the world have none.
 use Rattle.std.proofs.Common.{◌≡◌, ℕ, ◌+◌, ◌<◌, ◌≤◌, T, Bool, true, false, ◌&&◌, ◌||◌, List, [], ◌∷◌, ◌++◌, map, length, fold, Some, refl, sym, ◌∙◌, ap, ap₂, subst, arith, append_assoc}
-use Rattle.std.specs.List.{flat_map}
+use Rattle.std.specs.{List.flat_map, FinMap.entries_sorted, FinMap.get-entries, FinMap.get-from_entries, FinMap.same_map}
+use Rattle.std.specs.{FinMap.Entries.below_all, FinMap.Entries.find, FinMap.Entries.is_sorted, Ordering.eq_by_cmp}
 use Rattle.std.specs.Prelude.{⊤}
 use Rattle.std.specs.FinMap as finite
-use Rattle.std.specs.FinMap.{entries_sorted, get-entries, get-from_entries, same_map}
-use Rattle.std.specs.FinMap.Entries.{below_all, find, is_sorted}
-use Rattle.std.specs.Ordering.{eq_by_cmp}
 use Rattle.sorted_sets.specs.Rising.{Each, has}
-use Rattle.sorted_sets.proofs.Bools.{equal, or_true}
-use Rattle.sorted_sets.proofs.Keys.{and_first, and_second}
+use Rattle.sorted_sets.proofs.{Bools.equal, Bools.or_true, Keys.and_first, Keys.and_second}
 use Rattle.sorted_sets.proofs.Rising.{has-append, has-sorted, has_itself}
-use Rattle.rdf_term.specs.declared.term.Term.{Term}
-use Rattle.rdf_term.specs.declared.triple.Triple.{Triple}
+use Rattle.rdf_term.specs.{declared.term.Term.Term, declared.triple.Triple.Triple}
 use Rattle.rdf_term.specs.Order.{term_cmp, term_cmp-total, triple_cmp, triple_cmp-total}
 use Rattle.rdf_term.proofs.Texts.{term_cmp-IsAntisymmetric, triple_cmp-IsAntisymmetric}
 use Rattle.triple_store.specs.Room.{distinct, terms_of}
 use Rattle.triple_store.proofs.Distinct.{fewer}
-use Rattle.entity_model.specs.declared.id.EntityId.{EntityId}
-use Rattle.entity_model.specs.declared.event.Event.{Event}
-use Rattle.entity_model.specs.declared.mapping.MappingVersion.{MappingVersion}
+use Rattle.entity_model.specs.{declared.id.EntityId.EntityId, declared.event.Event.Event, declared.mapping.MappingVersion.MappingVersion}
 use Rattle.entity_model.specs.EntityId.{entity_cmp, entity_cmp_same, entity_cmp_total}
 use Rattle.entity_state.specs.declared.record.Record.{Record}
 use Rattle.side_output.specs.declared.entry.Entry.{Entry}
-use Rattle.replay_model.specs.Records.{Bytes, Records}
-use Rattle.replay_model.specs.ReplayState.{ReplayState}
-use Rattle.replay_model.specs.Union.{Meaning, triples_at, triples_held, union}
-use Rattle.replay_model.specs.Versions.{meaning_by}
-use Rattle.replay_model.proofs.Versions.{union-all}
-use Rattle.replay_model.proofs.ToldContents.{Each-append}
-use Rattle.world.specs.Meaning.{meaning}
-use Rattle.world.specs.Roomed.{room_with}
-use Rattle.world.specs.WorldState.{WorldState}
+use Rattle.replay_model.specs.{Records.Bytes, Records.Records, ReplayState.ReplayState}
+use Rattle.replay_model.specs.{Union.Meaning, Union.triples_at, Union.triples_held, Union.union, Versions.meaning_by}
+use Rattle.replay_model.proofs.{Versions.union-all, ToldContents.Each-append}
+use Rattle.fetched_pages.specs.Meaning.{meaning}
+use Rattle.world.specs.{Roomed.room_with, WorldState.WorldState}
 use Rattle.snapshot.specs.declared.line.Line.{Line}
 use Rattle.snapshot.specs.declared.line.Line.TheVariants.{Head as Begins, Remembered, Entity, Side, End}
 use Rattle.snapshot.specs.LineText.{line_of}
 use Rattle.snapshot.specs.Whole.{Loading, Saved, unbegun, begun, beginning, entity_line, head_of, lines_before_end, recording}
+use Rattle.snapshot.specs.declared.counts.Counts.{Counts}
 use Rattle.snapshot.proofs.LineTextBack.{line_text_back}
 use Rattle.snapshot.proofs.WholeBack.{kept_in, noted_in, records_fold, recorded_fold, noted_again}
 use Rattle.checkpoint.specs.declared.loader.Stage.{Stage}
 use Rattle.checkpoint.specs.declared.loader.Stage.TheVariants.{Unbegun, Begun, Ended}
-use Rattle.checkpoint.specs.declared.numbers.Numbers.{Numbers}
-use Rattle.checkpoint.specs.Causes.{IsFileOverfull}
-use Rattle.checkpoint.specs.Loading.{HasNoRoomForLine, IsLoadable, Leads, loading_of}
+use Rattle.checkpoint.specs.{Causes.IsFileOverfull, Loading.HasNoRoomForLine, Loading.IsLoadable, Loading.Leads, Loading.loading_of}
 use Rattle.checkpoint.specs.Saved.{saved_of}
 use Rattle.checkpoint_laws.proofs.Loadable.{Next, Stands, at, bytes, each_front, entries_lead, events_lead, leads-append, leads_same, next_line, noted, recorded, records_lead, s}
 
@@ -193,9 +182,9 @@ sorted_map es rise =
 
 -- ---- the world
 
-module _ (w : WorldState) (numbers : Numbers) (is : IsLoadable w numbers) where
+module _ (w : WorldState) (counts : Counts) (is : IsLoadable w counts) where
   abbrev others : List Line
-  others = Begins (head_of (s w numbers is)) ∷ (map Remembered w.replay.buffer.kept ++ map Side w.replay.played.side)
+  others = Begins (head_of (s w counts is)) ∷ (map Remembered w.replay.buffer.kept ++ map Side w.replay.played.side)
 
   abbrev all : List (EntityId × Record Bytes)
   all = finite.entries w.replay.played.records
@@ -203,11 +192,11 @@ module _ (w : WorldState) (numbers : Numbers) (is : IsLoadable w numbers) where
   none : Each IsOther others
   none = (tt, Each-append IsOther (map Remembered w.replay.buffer.kept) (map Side w.replay.played.side) (events_other w.replay.buffer.kept) (entries_other w.replay.played.side))
 
-  lines_grouped : (last : Line) → lines_before_end (s w numbers is) ++ last ∷ [] ≡ others ++ (map entity_line all ++ last ∷ [])
+  lines_grouped : (last : Line) → lines_before_end (s w counts is) ++ last ∷ [] ≡ others ++ (map entity_line all ++ last ∷ [])
   lines_grouped last =
       let kept = map Remembered w.replay.buffer.kept in
       let side = map Side w.replay.played.side in
-      ap (λ l. Begins (head_of (s w numbers is)) ∷ l)
+      ap (λ l. Begins (head_of (s w counts is)) ∷ l)
       (ap (λ l. l ++ last ∷ []) (sym (append_assoc kept side (map entity_line all))) ∙ append_assoc (kept ++ side) (map entity_line all) (last ∷ []))
 
   -- behind these lines and those of some records
@@ -215,40 +204,40 @@ module _ (w : WorldState) (numbers : Numbers) (is : IsLoadable w numbers) where
   reached_at = 1 + length w.replay.buffer.kept + length w.replay.played.side
 
   lead_to : (front back : List (EntityId × Record Bytes)) → all ≡ front ++ back
-      → Leads unbegun (others ++ map entity_line front) (at (s w numbers is) (fold recording (noted_in (s w numbers is)) front) (reached_at + length front))
+      → Leads unbegun (others ++ map entity_line front) (at (s w counts is) (fold recording (noted_in (s w counts is)) front) (reached_at + length front))
   lead_to front back parts = (
     is.within,
     (
-      at (s w numbers is) (beginning (head_of (s w numbers is))).state 1,
+      at (s w counts is) (beginning (head_of (s w counts is))).state 1,
       refl,
-      leads-append _ _ (at (s w numbers is) (noted_in (s w numbers is)) reached_at) _ _
-          (leads-append _ _ (at (s w numbers is) (kept_in (s w numbers is)) (1 + length w.replay.buffer.kept)) _ _
-          (events_lead w.replay.buffer.kept (s w numbers is) (beginning (head_of (s w numbers is))).state 1)
-          (entries_lead w.replay.played.side (s w numbers is) (kept_in (s w numbers is)) (1 + length w.replay.buffer.kept) (noted w numbers is)))
-          (records_lead front (s w numbers is) (noted_in (s w numbers is)) reached_at
-          (each_front (Stands (noted_in (s w numbers is)).played.side) front back (subst (Each (Stands (noted_in (s w numbers is)).played.side)) parts (recorded w numbers is))).0),
+      leads-append _ _ (at (s w counts is) (noted_in (s w counts is)) reached_at) _ _
+          (leads-append _ _ (at (s w counts is) (kept_in (s w counts is)) (1 + length w.replay.buffer.kept)) _ _
+          (events_lead w.replay.buffer.kept (s w counts is) (beginning (head_of (s w counts is))).state 1)
+          (entries_lead w.replay.played.side (s w counts is) (kept_in (s w counts is)) (1 + length w.replay.buffer.kept) (noted w counts is)))
+          (records_lead front (s w counts is) (noted_in (s w counts is)) reached_at
+          (each_front (Stands (noted_in (s w counts is)).played.side) front back (subst (Each (Stands (noted_in (s w counts is)).played.side)) parts (recorded w counts is))).0),
     ),
   )
 
   -- the records that went in so far are the first ones
-  some_records : (front back : List (EntityId × Record Bytes)) → all ≡ front ++ back → finite.entries (fold recording (noted_in (s w numbers is)) front).played.records ≡ front
+  some_records : (front back : List (EntityId × Record Bytes)) → all ≡ front ++ back → finite.entries (fold recording (noted_in (s w counts is)) front).played.records ≡ front
   some_records front back parts =
       let rise : T (is_sorted entity_cmp (front ++ back)) = subst (λ es. T (is_sorted entity_cmp es)) parts (entries_sorted w.replay.played.records) in
-      let none_before : (noted_in (s w numbers is)).played.records ≡ finite.empty = ap (λ (v : ReplayState). v.played.records) (noted_again (s w numbers is) is.rests) in
-      ap (λ (v : ReplayState). finite.entries v.played.records) (recorded_fold front (noted_in (s w numbers is)))
+      let none_before : (noted_in (s w counts is)).played.records ≡ finite.empty = ap (λ (v : ReplayState). v.played.records) (noted_again (s w counts is) is.rests) in
+      ap (λ (v : ReplayState). finite.entries v.played.records) (recorded_fold front (noted_in (s w counts is)))
       ∙ ap (λ (m : Records). finite.entries (fold (λ m e. finite.insert m e.0 e.1) m front)) none_before
       ∙ ap finite.entries (records_fold [] front (sorted_front front back rise))
       ∙ ap finite.entries (sorted_map front (sorted_front front back rise))
       ∙ finite.entries-from_sorted entity_cmp front (sorted_front front back rise)
 
-  pub full_only : (room : ℕ) → IsFileOverfull room (bytes w numbers is) → room < room_with (meaning_by meaning w.by_two) w.replay.played.records []
+  pub full_only : (room : ℕ) → IsFileOverfull room (bytes w counts is) → room < room_with (meaning_by meaning w.by_two) w.replay.played.records []
   full_only room full = by_item next.item refl over
     where
       loading : Loading
       loading = loading_of full.world full.stage (length full.done)
 
-      next : Next w numbers is loading full.line
-      next = next_line w numbers is full.done loading full.first full.line full.others full.next
+      next : Next w counts is loading full.line
+      next = next_line w counts is full.done loading full.first full.line full.others full.next
 
       over : HasNoRoomForLine full.world next.item
       over =
@@ -265,25 +254,25 @@ module _ (w : WorldState) (numbers : Numbers) (is : IsLoadable w numbers) where
         where
           placed : Placed all others next.done (x, r)
           placed =
-              behind_others others none all (length (lines_before_end (s w numbers is))) next.done x r next.todo
-              (sym (lines_grouped (End (length (lines_before_end (s w numbers is))))) ∙ next.lines_are ∙ ap (λ item. next.done ++ item ∷ next.todo) item_is)
+              behind_others others none all (length (lines_before_end (s w counts is))) next.done x r next.todo
+              (sym (lines_grouped (End (length (lines_before_end (s w counts is))))) ∙ next.lines_are ∙ ap (λ item. next.done ++ item ∷ next.todo) item_is)
 
           parts : all ≡ placed.front ++ (x, r) ∷ placed.back
           parts = placed.is
 
-          there : loading ≡ at (s w numbers is) (fold recording (noted_in (s w numbers is)) placed.front) (reached_at + length placed.front)
+          there : loading ≡ at (s w counts is) (fold recording (noted_in (s w counts is)) placed.front) (reached_at + length placed.front)
           there =
               leads_same unbegun (others ++ map entity_line placed.front) loading _ (subst (λ ls. Leads unbegun ls loading) placed.done_is next.lead) (lead_to placed.front ((x, r) ∷ placed.back) parts)
 
           by_stage : (stage : Stage) → full.stage ≡ stage → room < room_with (meaning_by meaning w.by_two) w.replay.played.records []
           by_stage Unbegun stage_is =
-              let never : unbegun ≡ at (s w numbers is) _ _ = ap (λ (g : Stage). loading_of full.world g (length full.done)) (sym stage_is) ∙ there in cc
-          by_stage (Ended counts) stage_is =
-              let never : loading_of full.world (Ended counts) (length full.done) ≡ at (s w numbers is) _ _ = ap (λ (g : Stage). loading_of full.world g (length full.done)) (sym stage_is) ∙ there in cc
-          by_stage (Begun counts) stage_is =
-              let begun_is : begun (saved_of full.world counts) (length full.done) ≡ at (s w numbers is) (fold recording (noted_in (s w numbers is)) placed.front) (reached_at + length placed.front) =
+              let never : unbegun ≡ at (s w counts is) _ _ = ap (λ (g : Stage). loading_of full.world g (length full.done)) (sym stage_is) ∙ there in cc
+          by_stage (Ended read) stage_is =
+              let never : loading_of full.world (Ended read) (length full.done) ≡ at (s w counts is) _ _ = ap (λ (g : Stage). loading_of full.world g (length full.done)) (sym stage_is) ∙ there in cc
+          by_stage (Begun read) stage_is =
+              let begun_is : begun (saved_of full.world read) (length full.done) ≡ at (s w counts is) (fold recording (noted_in (s w counts is)) placed.front) (reached_at + length placed.front) =
               ap (λ (g : Stage). loading_of full.world g (length full.done)) (sym stage_is) ∙ there in
-              let saved_is : saved_of full.world counts ≡ record (s w numbers is) { state = fold recording (noted_in (s w numbers is)) placed.front } = cc in
+              let saved_is : saved_of full.world read ≡ record (s w counts is) { state = fold recording (noted_in (s w counts is)) placed.front } = cc in
               let version : full.world.mapping ≡ w.mapping = ap (λ (k : Saved). k.version) saved_is in
               let records : finite.entries full.world.replay.played.records ≡ placed.front =
               ap (λ (k : Saved). finite.entries k.state.played.records) saved_is ∙ some_records placed.front ((x, r) ∷ placed.back) parts in

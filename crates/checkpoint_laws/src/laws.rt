@@ -1,10 +1,10 @@
 // What holds of what is saved and loaded. The law is the contract of a function that does nothing.
 
-ghost use Rattle.std.specs.Prelude.{◌≡◌, ◌≢◌, ℕ, ◌<◌, [], Some, length, take};
-ghost use Rattle.world.specs.{WorldState.WorldState, Meaning.meaning, Roomed.room_with};
-ghost use Rattle.snapshot.specs.{File.IsFitSaved, File.file_text, File.saved_in_bytes, Waiting.IsAtRest, Whole.Saved};
-ghost use Rattle.checkpoint.specs.{declared.numbers.Numbers.Numbers as TheNumbers, Causes.IsFileOverfull, Causes.IsNoSnapshot};
-ghost use Rattle.checkpoint.specs.{Loading.IsLoadable, Saved.numbers_of, Saved.saved_of, Saved.world_of};
+ghost use Rattle.std.specs.Prelude.{◌≡◌, ◌≢◌, ℕ, List, ◌<◌, [], Some, length, take};
+ghost use Rattle.fetched_pages.specs.Meaning.{meaning};
+ghost use Rattle.world.specs.{WorldState.WorldState, Roomed.room_with};
+ghost use Rattle.snapshot.specs.{File.IsFitSaved, File.file_text, File.saved_in_bytes, Waiting.IsAtRest, Whole.Saved, declared.counts.Counts.Counts as TheCounts};
+ghost use Rattle.checkpoint.specs.{Causes.IsFileOverfull, Causes.IsNoSnapshot, Loading.IsLoadable, Saved.saved_of, Saved.world_of};
 ghost use Rattle.replay_model.specs.Versions.{all_by, meaning_by};
 
 use snapshot::snapshots_read_back;
@@ -13,20 +13,26 @@ use snapshot::snapshots_read_back;
 /// only if the world's triples do. So a loading of these bytes ends with Ok if they can be read and are no more than a file may have, and
 /// there is room and memory.
 pub fn no_line_of_a_saved_world_is_refused()
-    ensures lines { (w : WorldState) (numbers : TheNumbers) (n : ℕ) → IsLoadable w numbers → ¬ (IsNoSnapshot (file_text (saved_of w numbers)) n) }
-    ensures room { (w : WorldState) (numbers : TheNumbers) (room : ℕ) → IsLoadable w numbers → IsFileOverfull room (file_text (saved_of w numbers)) →
+    ensures lines { (w : WorldState) (counts : TheCounts) (n : ℕ) → IsLoadable w counts → ¬ (IsNoSnapshot (file_text (saved_of w counts)) n) }
+    ensures room { (w : WorldState) (counts : TheCounts) (room : ℕ) → IsLoadable w counts → IsFileOverfull room (file_text (saved_of w counts)) →
         room < room_with (meaning_by meaning w.by_two) w.replay.played.records [] }
 {}
 
-/// What is read of the bytes that were written of a world gives this world back, with the numbers, where its buffer rests and every page
+/// Of the bytes of a file that is no snapshot, one line is refused: the first one that may not come. So two loadings that refuse a line name
+/// the same one.
+pub fn one_line_is_refused()
+    ensures { (bytes : List ℕ) (m n : ℕ) → IsNoSnapshot bytes m → IsNoSnapshot bytes n → m ≡ n }
+{}
+
+/// What is read of the bytes that were written of a world gives this world back, with the counts, where its buffer rests and every page
 /// is mapped by the version in force; so a loading of these bytes within the same room answers with this world. Of a shorter prefix of the
 /// bytes nothing is read.
 pub fn a_saved_world_is_loaded_as_it_was()
-    ensures back { (w : WorldState) (numbers : TheNumbers) (s : Saved) → IsAtRest w.replay.buffer → IsFitSaved (saved_of w numbers) →
-        w.by_two ≡ all_by w.mapping w.replay.played.records → saved_in_bytes (file_text (saved_of w numbers)) ≡ Some s →
-        (world_of w.limit s ≡ w) × (numbers_of s ≡ numbers) }
-    ensures cut { (w : WorldState) (numbers : TheNumbers) (k : ℕ) (s : Saved) → IsFitSaved (saved_of w numbers) →
-        k < length (file_text (saved_of w numbers)) → saved_in_bytes (take k (file_text (saved_of w numbers))) ≢ Some s }
+    ensures back { (w : WorldState) (counts : TheCounts) (s : Saved) → IsAtRest w.replay.buffer → IsFitSaved (saved_of w counts) →
+        w.by_two ≡ all_by w.mapping w.replay.played.records → saved_in_bytes (file_text (saved_of w counts)) ≡ Some s →
+        (world_of w.limit s ≡ w) × (s.counts ≡ counts) }
+    ensures cut { (w : WorldState) (counts : TheCounts) (k : ℕ) (s : Saved) → IsFitSaved (saved_of w counts) →
+        k < length (file_text (saved_of w counts)) → saved_in_bytes (take k (file_text (saved_of w counts))) ≢ Some s }
 {
     snapshots_read_back();
 }

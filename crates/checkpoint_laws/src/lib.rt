@@ -3,4 +3,6 @@
 
 mod laws;
 
-pub use laws::{a_saved_world_is_loaded_as_it_was, no_line_of_a_saved_world_is_refused};
+pub use laws::{
+    a_saved_world_is_loaded_as_it_was, no_line_of_a_saved_world_is_refused, one_line_is_refused,
+};

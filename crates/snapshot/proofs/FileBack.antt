@@ -5,22 +5,16 @@ use Rattle.std.specs.FinMap as finite
 use Rattle.sorted_sets.specs.Rising.{Each}
 use Rattle.wq_io.specs.Lines.{IsOneLine, ended_lines, line_feed, lines}
 use Rattle.wq_io.proofs.LineLists.{lines-line, one_line-cons}
-use Rattle.entity_model.specs.declared.id.EntityId.{EntityId}
-use Rattle.entity_model.specs.declared.event.Event.{Event}
-use Rattle.entity_model.specs.EntityId.{IsId}
+use Rattle.entity_model.specs.{declared.id.EntityId.EntityId, declared.event.Event.Event, EntityId.IsId}
 use Rattle.entity_state.specs.declared.record.Record.{Record}
 use Rattle.side_output.specs.declared.entry.Entry.{Entry}
 use Rattle.replay_model.specs.Records.{Bytes}
 use Rattle.snapshot.specs.declared.line.Line.{Line}
 use Rattle.snapshot.specs.declared.line.Line.TheVariants.{Remembered, Side, End}
-use Rattle.snapshot.specs.Fit.{IsFitEvent, IsFitRecord, IsFitEntry, IsFitLine}
-use Rattle.snapshot.specs.LineText.{line_text}
-use Rattle.snapshot.specs.Waiting.{IsAtRest}
+use Rattle.snapshot.specs.{Fit.IsFitEvent, Fit.IsFitRecord, Fit.IsFitEntry, Fit.IsFitLine, LineText.line_text, Waiting.IsAtRest}
 use Rattle.snapshot.specs.Whole.{Saved, entity_line, lines_before_end, snapshot_lines, saved_in}
 use Rattle.snapshot.specs.File.{file_text, feeds, onto_line, lines_in, saved_in_bytes, IsFitSaved}
-use Rattle.snapshot.proofs.LineShape.{line_in_line}
-use Rattle.snapshot.proofs.LineTextBack.{line_text_back}
-use Rattle.snapshot.proofs.WholeBack.{saved_back}
+use Rattle.snapshot.proofs.{LineShape.line_in_line, LineTextBack.line_text_back, WholeBack.saved_back}
 
 -- a line and its line feed come first
 pub feeds-line : (line others : List ℕ) → IsOneLine line → feeds (line ++ line_feed ∷ others) ≡ option_map (λ lines. line ∷ lines) (feeds others)
@@ -77,7 +71,7 @@ entries_fit (e ∷ es) fit = (fit.0, entries_fit es fit.1)
 pub lines_fit : (s : Saved) → IsFitSaved s → Each IsFitLine (snapshot_lines s)
 lines_fit s fit =
     each_both (lines_before_end s) (End (length (lines_before_end s)) ∷ []) (
-      record { mark = fit.mark; horizon = fit.horizon; asks = fit.asks; matches = fit.matches; patches = fit.patches },
+      record { mark = fit.mark; horizon = fit.horizon; counts = fit.counts },
       each_both (map Remembered s.state.buffer.kept) (map Side s.state.played.side ++ map entity_line (finite.entries s.state.played.records))
           (events_fit s.state.buffer.kept fit.kept)
           (each_both (map Side s.state.played.side) (map entity_line (finite.entries s.state.played.records))

@@ -1,35 +1,28 @@
 -- The text of a line is no longer than a reader of lines allows: a byte of a string is at most six, and a page has at most 8,388,608.
 use Rattle.std.proofs.Common.{◌≡◌, ℕ, ℤ, pos, negsuc, zero, suc, ◌+◌, ◌-◌, ◌*◌, ◌/◌, ◌%◌, ◌≤◌, ◌==◌, Bool, true, false, cond, codes, List, [], ◌∷◌, ◌++◌, length, take, Option, None, Some, IfSome, Err, refl, nat_lt, arith, length-append, length-take}
 use Rattle.std.specs.Prelude.{decimal}
-use Rattle.std.specs.Fmt.{digits, digits_onto, digit_glyph}
-use Rattle.std.specs.Char.{digit_char}
+use Rattle.std.specs.{Fmt.digits, Fmt.digits_onto, Fmt.digit_glyph, Char.digit_char}
 use Rattle.std.proofs.lemmas.Bool.Decides.{nat_tests}
 use Rattle.json.specs.Print.{escape_letter, escape_byte, escape, quoted}
 use Rattle.json_spell.specs.Scan.{is_deep_text}
 use Rattle.serde_json.specs.Data.{Num, unsigned, negative, float, Data, null, boolean, number, string, array, object, Items, no_items, item, Members, no_members, member}
 use Rattle.serde_json.specs.Written.{number_text, comma_if, compact_text, items_text, members_text}
-use Rattle.entity_model.specs.declared.id.EntityId.{EntityId}
-use Rattle.entity_model.specs.declared.event.Event.{Event}
-use Rattle.entity_model.specs.declared.event.Kind.{Kind}
+use Rattle.entity_model.specs.{declared.id.EntityId.EntityId, declared.event.Event.Event, declared.event.Kind.Kind}
 use Rattle.entity_model.specs.declared.event.Kind.TheVariants.{Edit, Delete, Undelete, ReconcileDeleted, ReconcileKept}
 use Rattle.entity_model.specs.declared.unfit.Unfit.TheVariants.{Large, Deep, NotJson, Shape, Foreign}
 use Rattle.entity_model.specs.EntityId.{id_text}
-use Rattle.entity_state.specs.declared.record.Held.{Held}
-use Rattle.entity_state.specs.declared.state.Mode.{Mode}
+use Rattle.entity_state.specs.{declared.record.Held.Held, declared.state.Mode.Mode}
 use Rattle.entity_state.specs.declared.state.Mode.TheVariants.{Unknown, Kept, Deleted}
 use Rattle.entity_json.specs.Document.{page_limit, tree_of, document_in, document_or_cause, unfit_by, unfit_of}
 use Rattle.side_output.specs.declared.entry.Cause.{Cause}
 use Rattle.side_output.specs.declared.entry.Cause.TheVariants.{Missing, Failed, Unfit as NoDocument}
 use Rattle.side_output.specs.declared.entry.Entry.TheVariants.{Late, Revision}
-use Rattle.replay_model.specs.Records.{Bytes}
-use Rattle.replay_model.specs.Replies.{HoldsDocument}
-use Rattle.replay_model.specs.Transcript.{kind_word, cause_word, unfit_word}
+use Rattle.replay_model.specs.{Records.Bytes, Replies.HoldsDocument, Transcript.kind_word, Transcript.cause_word, Transcript.unfit_word}
 use Rattle.snapshot.specs.declared.line.Line.{Line}
 use Rattle.snapshot.specs.declared.line.Line.TheVariants.{Head as Begins, Remembered, Entity, Side, End}
 use Rattle.snapshot.specs.Fit.{HasDocument}
 use Rattle.snapshot.specs.LineData.{has_line_feed, held_members, if_some, nat_data, int_data, event_data, held_data, line_data}
-use Rattle.snapshot.specs.LineText.{line_text, page_behind, page_of, with_page}
-use Rattle.snapshot.specs.Words.{mode_word}
+use Rattle.snapshot.specs.{LineText.line_text, LineText.page_behind, LineText.page_of, LineText.with_page, Words.mode_word}
 use Rattle.snapshot.proofs.PageText.{some_none}
 
 either_length : (b : Bool) (xs ys : List ℕ) (m : ℕ) → length xs ≤ m → length ys ≤ m → length (cond b xs ys) ≤ m

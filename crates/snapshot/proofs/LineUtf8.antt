@@ -1,44 +1,33 @@
 -- The text of a line is UTF-8 where its strings are, and a page is as a document.
 use Rattle.std.proofs.Common.{◌≡◌, ℕ, ℤ, pos, negsuc, zero, suc, ◌-◌, ◌/◌, ◌%◌, ◌<◌, ◌==◌, Bool, true, false, cond, codes, List, [], ◌∷◌, ◌++◌, length, take, Option, None, Some, IfSome, refl, sym, subst, arith}
 use Rattle.std.specs.Prelude.{⊤, decimal}
-use Rattle.std.specs.Fmt.{digits, digits_onto, digit_glyph}
-use Rattle.std.specs.Str.{IsUtf8}
-use Rattle.std.proofs.lemmas.Bool.Decides.{nat_tests}
-use Rattle.std.proofs.lemmas.List.{take_at}
+use Rattle.std.specs.{Fmt.digits, Fmt.digits_onto, Fmt.digit_glyph, Str.IsUtf8}
+use Rattle.std.proofs.{lemmas.Bool.Decides.nat_tests, lemmas.List.take_at}
 use Rattle.std.proofs.lemmas.Str.{IsCharBoundary-at_seam, IsUtf8-append, IsUtf8-nil, IsUtf8-take}
 use Rattle.json.specs.Print.{quoted}
 use Rattle.json.proofs.Printed.Utf8.{IsUtf8-are_ascii, IsUtf8-quoted, are_ascii}
 use Rattle.serde_json.specs.Data.{Num, unsigned, negative, float, Data, null, boolean, number, string, array, object, Items, no_items, item, Members, no_members, member}
 use Rattle.serde_json.specs.Written.{number_text, comma_if, compact_text, items_text, members_text}
-use Rattle.entity_model.specs.declared.id.EntityId.{EntityId}
-use Rattle.entity_model.specs.declared.id.IdKind.{IdKind}
-use Rattle.entity_model.specs.declared.event.Event.{Event}
+use Rattle.entity_model.specs.{declared.id.EntityId.EntityId, declared.id.IdKind.IdKind, declared.event.Event.Event}
 use Rattle.entity_model.specs.declared.event.Kind.{Kind}
 use Rattle.entity_model.specs.declared.event.Kind.TheVariants.{Edit, Delete, Undelete, ReconcileDeleted, ReconcileKept}
 use Rattle.entity_model.specs.declared.unfit.Unfit.TheVariants.{Large, Deep, NotJson, Shape, Foreign}
-use Rattle.entity_model.specs.EntityId.{id_text}
-use Rattle.entity_model.specs.IdKind.{letter_of}
+use Rattle.entity_model.specs.{EntityId.id_text, IdKind.letter_of}
 use Rattle.entity_model.specs.declared.id.IdKind.TheVariants.{P, Q, L}
-use Rattle.entity_state.specs.declared.record.Held.{Held}
-use Rattle.entity_state.specs.declared.state.Mode.{Mode}
+use Rattle.entity_state.specs.{declared.record.Held.Held, declared.state.Mode.Mode}
 use Rattle.entity_state.specs.declared.state.Mode.TheVariants.{Unknown, Kept, Deleted}
 use Rattle.entity_json.specs.Document.{unfit_of}
 use Rattle.side_output.specs.declared.entry.Cause.{Cause}
 use Rattle.side_output.specs.declared.entry.Cause.TheVariants.{Missing, Failed, Unfit as NoDocument}
 use Rattle.side_output.specs.declared.entry.Entry.TheVariants.{Late, Revision}
-use Rattle.replay_model.specs.Records.{Bytes}
-use Rattle.replay_model.specs.Replies.{HoldsDocument}
-use Rattle.replay_model.specs.Transcript.{kind_word, cause_word, unfit_word}
+use Rattle.replay_model.specs.{Records.Bytes, Replies.HoldsDocument, Transcript.kind_word, Transcript.cause_word, Transcript.unfit_word}
 use Rattle.snapshot.specs.declared.line.Line.{Line}
 use Rattle.snapshot.specs.declared.line.Line.TheVariants.{Head as Begins, Remembered, Entity, Side, End}
 use Rattle.snapshot.specs.Fit.{HasDocument}
 use Rattle.snapshot.specs.LineData.{has_line_feed, held_members, if_some, nat_data, int_data, event_data, held_data, line_data}
 use Rattle.snapshot.specs.LineText.{IsClosed, line_text, page_behind, page_of, with_page}
 use Rattle.snapshot.specs.Words.{mode_word}
-use Rattle.snapshot.proofs.LineShape.{line_closed}
-use Rattle.snapshot.proofs.LineTextBack.{front_is}
-use Rattle.snapshot.proofs.PageText.{page_utf8}
-use Rattle.snapshot.proofs.PageUtf8.{before_rest}
+use Rattle.snapshot.proofs.{LineShape.line_closed, LineTextBack.front_is, PageText.page_utf8, PageUtf8.before_rest}
 
 -- the strings are UTF-8, and the keys ASCII
 abbrev mutual
@@ -172,7 +161,7 @@ held_text x (Some h) document = by (has_line_feed h.content)
 
 line_is_text : (line : Line) → HasDocument line → IsText (line_data line)
 line_is_text (Begins h) document =
-    (refl, (tt, (refl, (nat_text h.horizon, (refl, (tt, (refl, (int_text h.mark, (refl, (tt, (refl, (tt, (refl, (tt, tt))))))))))))))
+    (refl, (tt, (refl, (nat_text h.horizon, (refl, (tt, (refl, (tt, (refl, (int_text h.mark, (refl, (tt, (refl, (tt, (refl, (tt, tt))))))))))))))))
 line_is_text (Remembered e) document = event_text e
 line_is_text (Entity x r) document =
     (refl, (id_utf8 x, (refl, (held_text x r.held document, (refl, (event_some_text r.reconciled, (refl, (tt, (refl, (mode_utf8 r.state.mode, tt))))))))))

@@ -2,8 +2,7 @@
 use Rattle.std.proofs.Common.{ℕ, ℤ, pos, negsuc, ◌<◌, ◌^◌, Bool, true, false, Option, None, Some, IfSome, refl, arith}
 use Rattle.std.specs.Int.{w64}
 use Rattle.std.specs.Prelude.{FitsSigned}
-use Rattle.entity_model.specs.declared.event.Event.{Event}
-use Rattle.entity_model.specs.declared.mapping.MappingVersion.{MappingVersion}
+use Rattle.entity_model.specs.{declared.event.Event.Event, declared.mapping.MappingVersion.MappingVersion}
 use Rattle.entity_model.specs.declared.mapping.MappingVersion.TheVariants.{One, Two}
 use Rattle.entity_state.specs.declared.record.Held.{Held}
 use Rattle.side_output.specs.declared.entry.Entry.TheVariants.{Late, Revision}
@@ -12,8 +11,7 @@ use Rattle.snapshot.specs.declared.line.Line.{Line}
 use Rattle.snapshot.specs.declared.line.Line.TheVariants.{Head as Begins, Remembered, Entity, Side, End}
 use Rattle.snapshot.specs.Words.{version_number}
 use Rattle.snapshot.specs.LineData.{has_line_feed, held_members, if_some, nat_data, int_data, event_data, held_data, line_data}
-use Rattle.snapshot.specs.Fit.{IsFitEvent, IsFitLine}
-use Rattle.snapshot.specs.Writable.{AreWritable, IsWritable}
+use Rattle.snapshot.specs.{Fit.IsFitEvent, Fit.IsFitLine, Writable.AreWritable, Writable.IsWritable}
 
 int_writable : (z : ℤ) → FitsSigned w64 z → IsWritable (int_data z)
 int_writable (pos n) fits = let small : n < 2 ^ 63 = fits.sfits in omega arith
@@ -49,22 +47,28 @@ held_some (Some h) fits = by (has_line_feed h.content)
 
 pub line_writable : (line : Line) → IsFitLine line → IsWritable (line_data line)
 line_writable (Begins h) fit = (
-  (refl, (refl, (refl, (refl, (refl, (refl, tt)))))),
+  (refl, (refl, (refl, (refl, (refl, (refl, (refl, tt))))))),
   (
-    fit.asks,
+    fit.counts.asks,
     (
-      (refl, (refl, (refl, (refl, (refl, tt))))),
+      (refl, (refl, (refl, (refl, (refl, (refl, tt)))))),
       (
         nat_some h.horizon fit.horizon,
         (
-          (refl, (refl, (refl, (refl, tt)))),
+          (refl, (refl, (refl, (refl, (refl, tt))))),
           (
-            version_writable h.mapping,
+            fit.counts.lines,
             (
-              (refl, (refl, (refl, tt))),
+              (refl, (refl, (refl, (refl, tt)))),
               (
-                int_some h.mark fit.mark,
-                ((refl, (refl, tt)), (fit.matches, ((refl, tt), (fit.patches, (tt, (omega arith, tt)))))),
+                version_writable h.mapping,
+                (
+                  (refl, (refl, (refl, tt))),
+                  (
+                    int_some h.mark fit.mark,
+                    ((refl, (refl, tt)), (fit.counts.matches, ((refl, tt), (fit.counts.patches, (tt, (omega arith, tt)))))),
+                  ),
+                ),
               ),
             ),
           ),

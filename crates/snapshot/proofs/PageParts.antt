@@ -1,13 +1,10 @@
 -- The parts of a text that ends with a page as it stands, computed.
 use Rattle.std.proofs.Common.{◌≡◌, ◌≢◌, ℕ, suc, ◌+◌, ◌-◌, Bool, true, false, cond, not, nat_lt, codes, List, [], ◌∷◌, ◌++◌, length, take, drop, Option, None, Some, option_map, Bor, refl, sym, ◌∙◌, ap, arith, append_assoc}
-use Rattle.std.specs.Option.{MatchOption}
-use Rattle.std.specs.List.{after_first, before_first, list_any, position_or_len}
-use Rattle.std.specs.Str.{bytes_eq}
+use Rattle.std.specs.{Option.MatchOption, List.after_first, List.before_first, List.list_any, List.position_or_len, Str.bytes_eq}
 use Rattle.std.specs.Str.Pattern.{FindsTextPrefix, FindsTextSuffix, StripsPrefix, StripsSuffix}
 use Rattle.std.proofs.lemmas.Bool.Decides.{nat_tests}
 use Rattle.std.proofs.lemmas.List.{drop_at, length-append, length_push, take-append-drop, take_at}
-use Rattle.std.proofs.lemmas.List.Folds.{list_any-append}
-use Rattle.std.proofs.lemmas.Slice.Eq.{bytes_eq-Decides}
+use Rattle.std.proofs.{lemmas.List.Folds.list_any-append, lemmas.Slice.Eq.bytes_eq-Decides}
 use Rattle.sorted_sets.proofs.Bools.{or_false_left, or_false_right}
 use Rattle.snapshot.specs.LineText.{around_tab, is_tab, page_parts, without_prefix, without_suffix}
 

@@ -1,43 +1,29 @@
 -- The state of a replay of deliveries that fit does too.
 use Rattle.std.proofs.Common.{◌≡◌, ℕ, ℤ, ◌<◌, ◌^◌, length, Bool, true, false, not, cond, ◌&&◌, ◌||◌, ◌==◌, List, [], ◌∷◌, ◌++◌, Option, None, Some, IfSome, Result, Ok, Err, Less, Equal, Greater, fold, filter, filter_map, is_lt, int_lt, sym, ◌∙◌, subst, arith, nat_lt, nat_le}
 use Rattle.std.specs.Prelude.{FitsSigned, unwrap_or}
-use Rattle.std.specs.Int.{w64}
-use Rattle.std.specs.BTreeSet.{insert_key}
-use Rattle.std.specs.Ordering.{eq_by_cmp, match_ordering}
-use Rattle.std.specs.List.{cons_option}
-use Rattle.std.specs.FinMap as finite
+use Rattle.std.specs.{Int.w64, BTreeSet.insert_key, Ordering.eq_by_cmp, Ordering.match_ordering, List.cons_option}
 use Rattle.std.specs.FinMap.{entries-insert, get-entries, len-entries, len-empty}
 use Rattle.std.specs.FinMap.Entries.{find, put, by_order}
+use Rattle.std.specs.FinMap as finite
 use Rattle.sorted_sets.specs.Rising.{Each}
 use Rattle.sorted_sets.proofs.Pushes.{by_pushes}
-use Rattle.entity_model.specs.declared.id.EntityId.{EntityId}
-use Rattle.entity_model.specs.declared.event.Event.{Event}
-use Rattle.entity_model.specs.declared.event.Kind.{Kind}
+use Rattle.entity_model.specs.{declared.id.EntityId.EntityId, declared.event.Event.Event, declared.event.Kind.Kind}
 use Rattle.entity_model.specs.declared.event.Kind.TheVariants.{Edit, Delete, Undelete, ReconcileDeleted, ReconcileKept}
+use Rattle.entity_model.specs.{EntityId.IsId, EntityId.entity_cmp, EntityId.entity_cmp_total, Event.event_cmp}
 use Rattle.delivery.specs.declared.Delivery.{Delivery}
 use Rattle.delivery.specs.declared.Delivery.TheVariants.{Event as Told, Watermark, Ask, Mapping, Match}
-use Rattle.entity_model.specs.EntityId.{IsId, entity_cmp, entity_cmp_total}
-use Rattle.entity_model.specs.Event.{event_cmp}
-use Rattle.entity_state.specs.declared.record.Held.{Held}
-use Rattle.entity_state.specs.declared.record.Record.{Record}
-use Rattle.entity_state.specs.declared.state.State.{State}
+use Rattle.entity_state.specs.{declared.record.Held.Held, declared.record.Record.Record, declared.state.State.State}
 use Rattle.entity_state.specs.State.{kept, deleted, after_kind, state_after, is_deleted}
-use Rattle.entity_state.specs.Record.{blank, held_revision, wants}
-use Rattle.entity_state.specs.Standing.{is_reconciliation, reconciled_after}
-use Rattle.side_output.specs.declared.entry.Cause.{Cause}
-use Rattle.side_output.specs.declared.entry.Entry.{Entry}
-use Rattle.side_output.specs.declared.entry.Entry.TheVariants.{Late}
+use Rattle.entity_state.specs.{Record.blank, Record.held_revision, Record.wants, Standing.is_reconciliation, Standing.reconciled_after}
+use Rattle.side_output.specs.{declared.entry.Cause.Cause, declared.entry.Entry.Entry, declared.entry.Entry.TheVariants.Late}
 use Rattle.reorder_buffer.specs.Watermarks.{greater, is_due, floor, is_below}
 use Rattle.replay_model.specs.Acceptance.{arrivals_after, watermark_of, event_passing, events_passing, events, mark, is_late, is_accepted, due}
 use Rattle.replay_model.specs.Fate.{in_order}
 use Rattle.replay_model.specs.Play.{Replies, Played, held_after_fetch, record_after, entry_of, entries_after, apply, apply_all, newly_due, happens, play, nothing_played}
-use Rattle.replay_model.specs.Records.{Bytes, Records, record_of}
-use Rattle.replay_model.specs.ReplayState.{following}
+use Rattle.replay_model.specs.{Records.Bytes, Records.Records, Records.record_of, ReplayState.following}
 use Rattle.replay_model.proofs.Arrivals.{play-push}
-use Rattle.snapshot.specs.Whole.{Saved, lines_before_end}
-use Rattle.snapshot.specs.File.{IsFitSaved}
-use Rattle.snapshot.specs.Fit.{IsFitEvent, IsFitRecord, IsFitEntry}
-use Rattle.snapshot.specs.Deliveries.{IsFitDelivery}
+use Rattle.snapshot.specs.{Whole.Saved, Whole.lines_before_end, File.IsFitSaved}
+use Rattle.snapshot.specs.{Fit.AreFitCounts, Fit.IsFitEvent, Fit.IsFitRecord, Fit.IsFitEntry, Deliveries.IsFitDelivery}
 
 -- ---- lists
 
@@ -254,16 +240,14 @@ play_fits h replies = by_pushes (λ ds. Each IsFitDelivery ds → IsFitPlayed (p
         subst IsFitPlayed (sym (play-push h replies ds d)) (happens_fits h replies ds d (play h replies ds) (before (each_front IsFitDelivery ds (d ∷ []) fit)) fit)
 
 -- a snapshot whose state is that after deliveries that fit does, where its lines can be counted
-pub following_fits : (s : Saved) (h : Option ℕ) (replies : Replies) (ds : List Delivery) → s.state ≡ following h replies ds → s.asks < 2 ^ 64 → s.matches < 2 ^ 64 → s.patches < 2 ^ 64 →
+pub following_fits : (s : Saved) (h : Option ℕ) (replies : Replies) (ds : List Delivery) → s.state ≡ following h replies ds → AreFitCounts s.counts →
     IfSome h (λ n. n < 2 ^ 64) → Each IsFitDelivery ds → length (lines_before_end s) < 2 ^ 64 → IsFitSaved s
-following_fits s h replies ds is asks matches patches horizon fit count =
+following_fits s h replies ds is counts horizon fit count =
     let played = play_fits h replies ds fit in
     record {
       mark = subst (λ w. IfSome w.buffer.mark (FitsSigned w64)) (sym is) (mark_fits_from ds None tt fit);
       horizon = subst (λ w. IfSome w.buffer.horizon (λ n. n < 2 ^ 64)) (sym is) horizon;
-      asks = asks;
-      matches = matches;
-      patches = patches;
+      counts = counts;
       kept = subst (λ w. Each IsFitEvent w.buffer.kept) (sym is)
           (each_filtered IsFitEvent (λ e. not (is_below (floor h (mark ds)) e.time)) (in_order (events ds)) (each_sorted IsFitEvent (events ds) (events_fit ds fit)));
       records = subst (λ w. Each IsFitIn (finite.entries w.played.records)) (sym is) played.records;

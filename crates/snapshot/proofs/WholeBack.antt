@@ -1,26 +1,23 @@
 -- The lines of a state at rest are read as that state.
 use Rattle.std.proofs.Common.{◌≡◌, ℕ, ◌+◌, ◌==◌, true, cond, T, List, [], ◌∷◌, ◌++◌, map, length, fold, Option, Some, None, Less, Greater, refl, sym, ◌∙◌, ap, subst, arith, append_assoc, append-nil, length-append}
-use Rattle.std.proofs.lemmas.List.{length-map}
+use Rattle.std.proofs.{lemmas.List.length-map, lemmas.Bool.Decides.nat_tests}
 use Rattle.std.specs.Prelude.{option_and_then}
 use Rattle.std.specs.Ordering.{ordering_reverse}
-use Rattle.std.specs.FinMap as finite
 use Rattle.std.specs.FinMap.{same_map, get-from_entries, get-entries, from_entries_push, entries_sorted}
 use Rattle.std.specs.FinMap.Entries.{find, below_all, is_sorted}
-use Rattle.std.proofs.lemmas.Bool.Decides.{nat_tests}
+use Rattle.std.specs.FinMap as finite
 use Rattle.sorted_sets.proofs.Keys.{and_first, and_second, less}
-use Rattle.entity_model.specs.declared.id.EntityId.{EntityId}
-use Rattle.entity_model.specs.declared.event.Event.{Event}
+use Rattle.entity_model.specs.{declared.id.EntityId.EntityId, declared.event.Event.Event}
 use Rattle.entity_model.specs.EntityId.{entity_cmp, entity_cmp_total, entity_cmp_same}
 use Rattle.entity_state.specs.declared.record.Record.{Record}
 use Rattle.side_output.specs.declared.entry.Entry.{Entry}
-use Rattle.replay_model.specs.Records.{Bytes, Records}
-use Rattle.replay_model.specs.ReplayState.{ReplayState}
+use Rattle.replay_model.specs.{Records.Bytes, Records.Records, ReplayState.ReplayState}
 use Rattle.snapshot.specs.declared.line.Line.{Line}
 use Rattle.snapshot.specs.declared.line.Line.TheVariants.{Remembered, Side, End}
-use Rattle.reorder_buffer.specs.Buffered.{Buffered, after_taking}
 use Rattle.snapshot.specs.Waiting.{IsAtRest}
-use Rattle.snapshot.proofs.TakenBack.{taken_back}
 use Rattle.snapshot.specs.Whole.{Saved, Loading, unbegun, begun, ended, head_of, entity_line, lines_before_end, snapshot_lines, beginning, remembering, recording, noting, after_line, after_lines, whole, saved_in}
+use Rattle.reorder_buffer.specs.Buffered.{Buffered, after_taking}
+use Rattle.snapshot.proofs.TakenBack.{taken_back}
 
 -- ---- lists of lines
 

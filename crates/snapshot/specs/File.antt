@@ -5,10 +5,8 @@ use Rattle.std.specs.FinMap as finite
 use Rattle.sorted_sets.specs.Rising.{Each}
 use Rattle.wq_io.specs.Lines.{line_feed, ended_lines}
 use Rattle.entity_model.specs.EntityId.{IsId}
-use Rattle.snapshot.specs.declared.line.Line.{Line}
-use Rattle.snapshot.specs.Fit.{IsFitEvent, IsFitRecord, IsFitEntry}
-use Rattle.snapshot.specs.LineText.{line_text, line_of}
-use Rattle.snapshot.specs.Whole.{Saved, lines_before_end, snapshot_lines, saved_in}
+use Rattle.snapshot.specs.{declared.line.Line.Line, Fit.AreFitCounts, Fit.IsFitEvent, Fit.IsFitRecord, Fit.IsFitEntry}
+use Rattle.snapshot.specs.{LineText.line_text, LineText.line_of, Whole.Saved, Whole.lines_before_end, Whole.snapshot_lines, Whole.saved_in}
 
 -- the bytes of a snapshot: each line with a line feed
 abbrev pub file_text : Saved → List ℕ
@@ -37,9 +35,7 @@ saved_in_bytes bytes = option_and_then saved_in (option_and_then lines_in (feeds
 pub record IsFitSaved (s : Saved) : Type 0 where
   pub mark : IfSome s.state.buffer.mark (FitsSigned w64)
   pub horizon : IfSome s.state.buffer.horizon (λ n. n < 2 ^ 64)
-  pub asks : s.asks < 2 ^ 64
-  pub matches : s.matches < 2 ^ 64
-  pub patches : s.patches < 2 ^ 64
+  pub counts : AreFitCounts s.counts
   pub kept : Each IsFitEvent s.state.buffer.kept
   pub records : Each (λ entry. IsId entry.0 × IsFitRecord entry.1) (finite.entries s.state.played.records)
   pub side : Each IsFitEntry s.state.played.side

@@ -1,16 +1,12 @@
 -- Which lines the types of the code hold, and ids of entities with numbers from 1.
 use Rattle.std.specs.Prelude.{⊤, ◌<◌, ◌^◌, IfSome, FitsSigned}
 use Rattle.std.specs.Int.{w64}
-use Rattle.entity_model.specs.declared.event.Event.{Event}
-use Rattle.entity_model.specs.EntityId.{IsId}
+use Rattle.entity_model.specs.{declared.event.Event.Event, EntityId.IsId}
 use Rattle.entity_state.specs.declared.record.Record.{Record}
-use Rattle.side_output.specs.declared.entry.Entry.{Entry}
-use Rattle.side_output.specs.declared.entry.Entry.TheVariants.{Late, Revision}
+use Rattle.side_output.specs.{declared.entry.Entry.Entry, declared.entry.Entry.TheVariants.Late, declared.entry.Entry.TheVariants.Revision}
 use Rattle.entity_json.specs.Document.{unfit_of}
-use Rattle.replay_model.specs.Records.{Bytes}
-use Rattle.replay_model.specs.Replies.{HoldsDocument}
-use Rattle.snapshot.specs.declared.line.Head.{Head}
-use Rattle.snapshot.specs.declared.line.Line.{Line}
+use Rattle.replay_model.specs.{Records.Bytes, Replies.HoldsDocument}
+use Rattle.snapshot.specs.{declared.counts.Counts.Counts, declared.line.Head.Head, declared.line.Line.Line}
 use Rattle.snapshot.specs.declared.line.Line.TheVariants.{Head as Begins, Remembered, Entity, Side, End}
 
 -- the event's entity is one, its time has 64 bits with a sign, and its revision 64 bits
@@ -19,12 +15,17 @@ pub record IsFitEvent (e : Event) : Type 0 where
   pub time : FitsSigned w64 e.time
   pub rev : e.rev < 2 ^ 64
 
+-- each count has 64 bits
+pub record AreFitCounts (c : Counts) : Type 0 where
+  pub asks : c.asks < 2 ^ 64
+  pub matches : c.matches < 2 ^ 64
+  pub patches : c.patches < 2 ^ 64
+  pub lines : c.lines < 2 ^ 64
+
 pub record IsFitHead (h : Head) : Type 0 where
   pub mark : IfSome h.mark (FitsSigned w64)
   pub horizon : IfSome h.horizon (λ n. n < 2 ^ 64)
-  pub asks : h.asks < 2 ^ 64
-  pub matches : h.matches < 2 ^ 64
-  pub patches : h.patches < 2 ^ 64
+  pub counts : AreFitCounts h.counts
 
 pub record IsFitRecord (r : Record Bytes) : Type 0 where
   pub rev : r.state.rev < 2 ^ 64

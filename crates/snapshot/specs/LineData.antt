@@ -4,17 +4,11 @@ use Rattle.std.specs.List.{list_any}
 use Rattle.serde_json.specs.Data.{Data, null, number, string, object, Members, no_members, member, unsigned}
 use Rattle.serde_json.specs.Find.{of_integer}
 use Rattle.wq_io.specs.Lines.{line_feed}
-use Rattle.entity_model.specs.declared.id.EntityId.{EntityId}
-use Rattle.entity_model.specs.declared.event.Event.{Event}
-use Rattle.entity_model.specs.EntityId.{id_text}
-use Rattle.entity_state.specs.declared.record.Held.{Held}
-use Rattle.entity_state.specs.declared.record.Record.{Record}
-use Rattle.side_output.specs.declared.entry.Entry.{Entry}
-use Rattle.side_output.specs.declared.entry.Entry.TheVariants.{Late, Revision}
-use Rattle.replay_model.specs.Records.{Bytes}
-use Rattle.replay_model.specs.Transcript.{kind_word, cause_word}
-use Rattle.snapshot.specs.declared.line.Head.{Head}
-use Rattle.snapshot.specs.declared.line.Line.{Line}
+use Rattle.entity_model.specs.{declared.id.EntityId.EntityId, declared.event.Event.Event, EntityId.id_text}
+use Rattle.entity_state.specs.{declared.record.Held.Held, declared.record.Record.Record}
+use Rattle.side_output.specs.{declared.entry.Entry.Entry, declared.entry.Entry.TheVariants.Late, declared.entry.Entry.TheVariants.Revision}
+use Rattle.replay_model.specs.{Records.Bytes, Transcript.kind_word, Transcript.cause_word}
+use Rattle.snapshot.specs.{declared.line.Head.Head, declared.line.Line.Line}
 use Rattle.snapshot.specs.declared.line.Line.TheVariants.{Head as Begins, Remembered, Entity, Side, End}
 use Rattle.snapshot.specs.Words.{mode_word, version_number}
 
@@ -51,35 +45,41 @@ held_members false h = member (codes "rev") (nat_data h.revision) no_members
 abbrev pub held_data : Held Bytes → Data
 held_data h = object (held_members (has_line_feed h.content) h)
 
-abbrev pub head_data : Head → Data
-head_data h = object (
-    member (codes "asks") (nat_data h.asks)
+abbrev pub head_members : Head → Members
+head_members h =
+    member (codes "asks") (nat_data h.counts.asks)
     (member (codes "horizon") (if_some nat_data h.horizon)
+    (member (codes "lines") (nat_data h.counts.lines)
     (member (codes "mapping") (nat_data (version_number h.mapping))
     (member (codes "mark") (if_some int_data h.mark)
-    (member (codes "matches") (nat_data h.matches)
-    (member (codes "patches") (nat_data h.patches)
-    (member (codes "snapshot") (nat_data 2) no_members)))))))
+    (member (codes "matches") (nat_data h.counts.matches)
+    (member (codes "patches") (nat_data h.counts.patches)
+    (member (codes "snapshot") (nat_data 3) no_members)))))))
 
-abbrev pub record_data : EntityId → Record Bytes → Data
-record_data x r = object (
+abbrev pub record_members : EntityId → Record Bytes → Members
+record_members x r =
     member (codes "entity") (string (id_text x))
     (member (codes "held") (if_some held_data r.held)
     (member (codes "reconciled") (if_some event_data r.reconciled)
     (member (codes "rev") (nat_data r.state.rev)
-    (member (codes "state") (string (mode_word r.state.mode)) no_members)))))
+    (member (codes "state") (string (mode_word r.state.mode)) no_members))))
 
-abbrev pub entry_data : Entry → Data
-entry_data (Late e) = object (member (codes "entry") (string (codes "late")) (member (codes "event") (event_data e) no_members))
-entry_data (Revision e r cause) = object (
-    member (codes "entry") (string (cause_word cause))
-    (member (codes "event") (event_data e)
-    (member (codes "rev") (nat_data r) no_members)))
+-- the word of an entry and its event, and then the others
+abbrev pub told_members : List ℕ → Event → Members → Members
+told_members word e others = member (codes "entry") (string word) (member (codes "event") (event_data e) others)
+
+abbrev pub entry_members : Entry → Members
+entry_members (Late e) = told_members (codes "late") e no_members
+entry_members (Revision e r cause) = told_members (cause_word cause) e (member (codes "rev") (nat_data r) no_members)
+
+-- the members of a line, but for a page that stands behind a record
+abbrev pub line_members : Line → Members
+line_members (Begins h) = head_members h
+line_members (Remembered e) = event_members e
+line_members (Entity x r) = record_members x r
+line_members (Side entry) = entry_members entry
+line_members (End n) = member (codes "end") (nat_data n) no_members
 
 -- the value of a line, but for a page that stands behind a record
 abbrev pub line_data : Line → Data
-line_data (Begins h) = head_data h
-line_data (Remembered e) = event_data e
-line_data (Entity x r) = record_data x r
-line_data (Side entry) = entry_data entry
-line_data (End n) = object (member (codes "end") (nat_data n) no_members)
+line_data line = object (line_members line)

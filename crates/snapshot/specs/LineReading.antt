@@ -2,19 +2,12 @@
 -- the last value counts.
 use Rattle.std.specs.Prelude.{ℕ, ℤ, ◌||◌, Bool, List, codes, Option, Some, None, option_map, option_and_then, is_some, nat_eq, if◌then◌else◌}
 use Rattle.std.specs.Str.{bytes_eq}
-use Rattle.serde_json.specs.Data.{Data}
-use Rattle.serde_json.specs.Find.{get, as_null, as_number, as_str, as_u64, as_i64}
-use Rattle.entity_model.specs.declared.id.EntityId.{EntityId}
-use Rattle.entity_model.specs.declared.event.Event.{Event}
-use Rattle.entity_model.specs.IdOf.{id_of}
-use Rattle.entity_state.specs.declared.record.Held.{Held}
-use Rattle.entity_state.specs.declared.record.Record.{Record}
-use Rattle.entity_state.specs.declared.state.State.{State}
-use Rattle.side_output.specs.declared.entry.Entry.{Entry}
-use Rattle.side_output.specs.declared.entry.Entry.TheVariants.{Late, Revision}
+use Rattle.serde_json.specs.{Data.Data, Find.get, Find.as_null, Find.as_number, Find.as_str, Find.as_u64, Find.as_i64}
+use Rattle.entity_model.specs.{declared.id.EntityId.EntityId, declared.event.Event.Event, IdOf.id_of}
+use Rattle.entity_state.specs.{declared.record.Held.Held, declared.record.Record.Record, declared.state.State.State}
+use Rattle.side_output.specs.{declared.entry.Entry.Entry, declared.entry.Entry.TheVariants.Late, declared.entry.Entry.TheVariants.Revision}
 use Rattle.replay_model.specs.Records.{Bytes}
-use Rattle.snapshot.specs.declared.line.Head.{Head}
-use Rattle.snapshot.specs.declared.line.Line.{Line}
+use Rattle.snapshot.specs.{declared.counts.Counts.Counts, declared.line.Head.Head, declared.line.Line.Line}
 use Rattle.snapshot.specs.declared.line.Line.TheVariants.{Head as Begins, Remembered, Entity, Side, End}
 use Rattle.snapshot.specs.Words.{kind_named, cause_named, mode_named, version_numbered}
 
@@ -69,28 +62,43 @@ abbrev pub held_or_null : Option Bytes → Data → Option (Option (Held Bytes))
 held_or_null None d = if_there (held_in None) d
 held_or_null (Some page) d = option_map Some (held_in (Some page) d)
 
--- the numbers of the formats that are read: in a file of format 1 each page is a string
+-- whether files of the format with this number are read: in one of format 1 each page is a string
 abbrev pub is_format : ℕ → Bool
-is_format number = nat_eq number 1 || nat_eq number 2
+is_format number = nat_eq number 1 || (nat_eq number 2 || nat_eq number 3)
+
+-- the number of a format that is read
+abbrev pub format_in : Data → Option ℕ
+format_in d = option_and_then (λ number. if is_format number then Some number else None) (nat_in d)
+
+-- how many lines were taken: format 3 says it, and before it none are counted
+abbrev pub lines_taken_in : Data → ℕ → Option ℕ
+lines_taken_in d format = if nat_eq format 3 then at_key nat_in (codes "lines") d else Some 0
+
+-- the counts of a head in a file of this format
+abbrev pub counts_in : Data → ℕ → Option Counts
+counts_in d format =
+    option_and_then (λ asks.
+    option_and_then (λ matches.
+    option_and_then (λ patches.
+    option_map (λ taken. record { asks = asks; matches = matches; patches = patches; lines = taken })
+    (lines_taken_in d format))
+    (at_key nat_in (codes "patches") d))
+    (at_key nat_in (codes "matches") d))
+    (at_key nat_in (codes "asks") d)
 
 -- the head of an object, with the number of its format
 abbrev pub head_in : Data → Data → Option Head
 head_in d format =
-    option_and_then (λ number. if is_format number then
+    option_and_then (λ number.
     option_and_then (λ mark.
     option_and_then (λ horizon.
     option_and_then (λ mapping.
-    option_and_then (λ asks.
-    option_and_then (λ matches.
-    option_map (λ patches. record { mark = mark; horizon = horizon; mapping = mapping; asks = asks; matches = matches; patches = patches })
-    (at_key nat_in (codes "patches") d))
-    (at_key nat_in (codes "matches") d))
-    (at_key nat_in (codes "asks") d))
+    option_map (λ counts. record { mark = mark; horizon = horizon; mapping = mapping; counts = counts })
+    (counts_in d number))
     (option_and_then version_numbered (at_key nat_in (codes "mapping") d)))
     (at_key (if_there nat_in) (codes "horizon") d))
-    (at_key (if_there int_in) (codes "mark") d)
-    else None)
-    (nat_in format)
+    (at_key (if_there int_in) (codes "mark") d))
+    (format_in format)
 
 abbrev pub state_in : Data → Data → Option State
 state_in d word =

@@ -1,27 +1,18 @@
 -- The lines of a whole snapshot, and the state of a replay that lines are.
 use Rattle.std.specs.Prelude.{ℕ, ◌+◌, ◌==◌, cond, List, [], ◌∷◌, ◌++◌, map, length, Option, Some, None, option_and_then}
 use Rattle.std.specs.FinMap as finite
-use Rattle.entity_model.specs.declared.id.EntityId.{EntityId}
-use Rattle.entity_model.specs.declared.event.Event.{Event}
-use Rattle.entity_model.specs.declared.mapping.MappingVersion.{MappingVersion}
+use Rattle.entity_model.specs.{declared.id.EntityId.EntityId, declared.event.Event.Event, declared.mapping.MappingVersion.MappingVersion}
 use Rattle.reorder_buffer.specs.Buffered.{after_taking}
 use Rattle.entity_state.specs.declared.record.Record.{Record}
 use Rattle.side_output.specs.declared.entry.Entry.{Entry}
-use Rattle.replay_model.specs.Play.{nothing_played}
-use Rattle.replay_model.specs.Records.{Bytes}
-use Rattle.replay_model.specs.ReplayState.{ReplayState}
-use Rattle.snapshot.specs.Waiting.{at_mark}
-use Rattle.snapshot.specs.declared.line.Head.{Head}
-use Rattle.snapshot.specs.declared.line.Line.{Line}
+use Rattle.replay_model.specs.{Play.nothing_played, Records.Bytes, ReplayState.ReplayState}
+use Rattle.snapshot.specs.{Waiting.at_mark, declared.counts.Counts.Counts, declared.line.Head.Head, declared.line.Line.Line}
 use Rattle.snapshot.specs.declared.line.Line.TheVariants.{Head as Begins, Remembered, Entity, Side, End}
 
--- what a snapshot keeps: the state of a replay, the version of the mapping in force, how many asks and how many matches were answered, and
--- the number of the last patch record
+-- what a snapshot keeps: the version of the mapping in force, the counts that the next run goes on with, and the state of a replay
 pub record Saved : Type 0 where
   pub version : MappingVersion
-  pub asks : ℕ
-  pub matches : ℕ
-  pub patches : ℕ
+  pub counts : Counts
   pub state : ReplayState
 
 -- ---- written
@@ -31,9 +22,7 @@ head_of s = record {
   mark = s.state.buffer.mark;
   horizon = s.state.buffer.horizon;
   mapping = s.version;
-  asks = s.asks;
-  matches = s.matches;
-  patches = s.patches;
+  counts = s.counts;
 }
 
 abbrev pub entity_line : EntityId × Record Bytes → Line
@@ -63,9 +52,7 @@ pub data Loading : Type 0 where
 abbrev pub beginning : Head → Saved
 beginning h = record {
   version = h.mapping;
-  asks = h.asks;
-  matches = h.matches;
-  patches = h.patches;
+  counts = h.counts;
   state = record { buffer = at_mark h.horizon h.mark []; played = nothing_played };
 }
 

@@ -8,14 +8,12 @@ ghost use Rattle.entity_json.specs.Document.{unfit_of};
 ghost use Rattle.entity_model.specs.{declared.id.EntityId.EntityId, EntityId.entity_cmp};
 ghost use Rattle.delivery.specs.declared.Delivery.{Delivery};
 ghost use Rattle.reorder_buffer.specs.Buffered.{Buffered, after_raising, after_taking, nothing_taken_within};
-ghost use Rattle.replay_model.specs.{Acceptance.mark, Records.Bytes, Entries.HoldsUnlessOpen, Play.Played, Play.Replies};
-ghost use Rattle.replay_model.specs.ReplayState.{following};
+ghost use Rattle.replay_model.specs.{Acceptance.mark, Records.Bytes, Entries.HoldsUnlessOpen, Play.Played, Play.Replies, ReplayState.following};
 ghost use Rattle.std.specs.FinMap as finite;
 ghost use Rattle.entity_state.specs.declared.record.Record.{Record};
-ghost use Rattle.snapshot.specs.{declared.line.Line.Line, Fit.IsFitLine, LineText.line_text, LineText.line_of};
+ghost use Rattle.snapshot.specs.{declared.line.Line.Line, Fit.AreFitCounts, Fit.IsFitLine, LineText.line_text, LineText.line_of};
 ghost use Rattle.snapshot.specs.{Whole.Saved, Whole.lines_before_end, Whole.snapshot_lines, Whole.saved_in, Deliveries.IsFitDelivery};
-ghost use Rattle.snapshot.specs.File.{IsFitSaved, file_text, saved_in_bytes};
-ghost use Rattle.snapshot.specs.Waiting.{IsAtRest, at_mark, not_reached};
+ghost use Rattle.snapshot.specs.{File.IsFitSaved, File.file_text, File.saved_in_bytes, Waiting.IsAtRest, Waiting.at_mark, Waiting.not_reached};
 
 /// The text of a line is one line, and is read as that line.
 pub fn lines_read_back()
@@ -34,7 +32,7 @@ pub fn snapshots_read_back()
 /// The state after any deliveries can be saved; and the remembered events that wait are those that the mark hasn't reached, so that taking
 /// them again makes its buffer.
 pub fn replays_can_be_saved()
-    ensures fits { (s : Saved) (h : Option ℕ) (replies : Replies) (ds : List Delivery) → s.state ≡ following h replies ds → s.asks < 2 ^ 64 → s.matches < 2 ^ 64 → s.patches < 2 ^ 64 →
+    ensures fits { (s : Saved) (h : Option ℕ) (replies : Replies) (ds : List Delivery) → s.state ≡ following h replies ds → AreFitCounts s.counts →
         IfSome h (λ n. n < 2 ^ 64) → Each IsFitDelivery ds → length (lines_before_end s) < 2 ^ 64 → IsFitSaved s }
     ensures waiting { (h : Option ℕ) (replies : Replies) (ds : List Delivery) →
         (following h replies ds).buffer.waiting ≡ filter (not_reached (mark ds)) (following h replies ds).buffer.kept }

@@ -1,5 +1,6 @@
 // What one line of a snapshot holds.
 
+use crate::counts::Counts;
 use entity_model::{EntityId, Event, MappingVersion};
 use entity_state::Record;
 use rdf_term::Text;
@@ -14,12 +15,8 @@ pub struct Head {
     pub horizon: Option<u64>,
     /// The version of the mapping in force, by which each held page is mapped.
     pub mapping: MappingVersion,
-    /// How many asks were answered, so that the next one has the number after it.
-    pub asks: u64,
-    /// How many matches were delivered to `replay` or `split`. They have numbers of their own.
-    pub matches: u64,
-    /// The number of the last patch record, 0 where there was none.
-    pub patches: u64,
+    /// The counts that the next run goes on with.
+    pub counts: Counts,
 }
 
 /// One line of a snapshot.

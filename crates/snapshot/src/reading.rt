@@ -1,12 +1,14 @@
 // Which line of a snapshot a JSON value is, where a page may stand behind it.
 
-ghost use Rattle.std.specs.Prelude.{◌≡◌, IfOk, codes, option_map};
-ghost use Rattle.serde_json.specs.{View.view, Find.get};
-ghost use Rattle.snapshot.specs.LineReading.{nat_in, id_in, if_there, or_null, at_key, event_in, page_in, held_in, held_or_null, is_format, head_in, state_in, record_in, revision_in, entry_in, entity_in, side_in, line_in};
+ghost use Rattle.std.specs.Prelude.{◌≡◌, IfOk, codes, option_and_then, option_map};
+ghost use Rattle.serde_json.specs.{View.view, Find.as_str, Find.get};
+ghost use Rattle.snapshot.specs.Words.{kind_named};
+ghost use Rattle.snapshot.specs.LineReading.{nat_in, int_in, id_in, if_there, or_null, at_key, event_in, page_in, held_in, held_or_null, format_in, lines_taken_in, counts_in, head_in, state_in, record_in, revision_in, entry_in, entity_in, side_in, line_in};
 
+use crate::counts::Counts;
 use crate::line::{Head, Line};
 use crate::words::{cause_named, kind_named, mode_named, version_numbered};
-use entity_model::{EntityId, Event};
+use entity_model::{EntityId, Event, Kind};
 use entity_state::{Held, Record, State};
 use rdf_term::{OutOfMemory, Text};
 use serde_json::Value;
@@ -42,32 +44,79 @@ pub(crate) fn line_in(
 fn head(object: &Value, format: &Value) -> Option<Head>
     ensures { result ≡ head_in (view object.now) (view format.now) }
 {
-    if !is_format(format.as_u64()?) {
-        return None;
-    }
-    let mark = object.get("mark")?;
-    let mark = or_null(mark, mark.as_i64())?;
-    let horizon = object.get("horizon")?;
-    let horizon = or_null(horizon, horizon.as_u64())?;
-    let mapping = version_numbered(object.get("mapping")?.as_u64()?)?;
-    let asks = object.get("asks")?.as_u64()?;
-    let matches = object.get("matches")?.as_u64()?;
-    let patches = object.get("patches")?.as_u64()?;
+    let format = format_number(format)?;
+    let mark = mark(object)?;
+    let horizon = horizon(object)?;
+    let mapping = version_numbered(number_at(object, "mapping")?)?;
+    let counts = counts(object, format)?;
     Some(Head {
         mark,
         horizon,
         mapping,
-        asks,
-        matches,
-        patches,
+        counts,
     })
 }
 
-// Whether files of the format with this number are read.
-fn is_format(number: u64) -> bool
-    ensures { result ≡ is_format number }
+// The number of a format that is read.
+fn format_number(value: &Value) -> Option<u64>
+    ensures { result ≡ format_in (view value.now) }
 {
-    matches!(number, 1 | 2)
+    let number = value.as_u64()?;
+    if matches!(number, 1 | 2 | 3) {
+        Some(number)
+    } else {
+        None
+    }
+}
+
+// The mark, or none where it is null.
+fn mark(object: &Value) -> Option<Option<i64>>
+    ensures { result ≡ at_key (if_there int_in) (codes "mark") (view object.now) }
+{
+    let value = object.get("mark")?;
+    or_null(value, value.as_i64())
+}
+
+// The horizon, or none where it is null.
+fn horizon(object: &Value) -> Option<Option<u64>>
+    ensures { result ≡ at_key (if_there nat_in) (codes "horizon") (view object.now) }
+{
+    let value = object.get("horizon")?;
+    or_null(value, value.as_u64())
+}
+
+// The counts of a head in a file of this format.
+fn counts(object: &Value, format: u64) -> Option<Counts>
+    ensures { result ≡ counts_in (view object.now) format }
+{
+    let asks = number_at(object, "asks")?;
+    let matches = number_at(object, "matches")?;
+    let patches = number_at(object, "patches")?;
+    let lines = lines_taken(object, format)?;
+    Some(Counts {
+        asks,
+        matches,
+        patches,
+        lines,
+    })
+}
+
+// How many lines were taken; files of the formats before the third don't say it.
+fn lines_taken(object: &Value, format: u64) -> Option<u64>
+    ensures { result ≡ lines_taken_in (view object.now) format }
+{
+    if format == 3 {
+        number_at(object, "lines")
+    } else {
+        Some(0)
+    }
+}
+
+// The number at a key.
+fn number_at(object: &Value, key: &str) -> Option<u64>
+    ensures { result ≡ at_key nat_in key.now (view object.now) }
+{
+    object.get(key)?.as_u64()
 }
 
 // What was read of a value, or nothing where the value is null.
@@ -85,16 +134,23 @@ fn or_null<T: Copy>(value: &Value, read: Option<T>) -> Option<Option<T>>
 fn event(object: &Value) -> Option<Event>
     ensures { result ≡ event_in (view object.now) }
 {
-    let entity = id(object.get("entity")?)?;
-    let kind = kind_named(object.get("kind")?.as_str()?)?;
+    let entity = entity_id(object)?;
+    let kind = kind(object)?;
     let time = object.get("micros")?.as_i64()?;
-    let rev = object.get("rev")?.as_u64()?;
+    let rev = number_at(object, "rev")?;
     Some(Event {
         entity,
         time,
         rev,
         kind,
     })
+}
+
+// The kind at the key `kind`.
+fn kind(object: &Value) -> Option<Kind>
+    ensures { result ≡ option_and_then kind_named (at_key as_str (codes "kind") (view object.now)) }
+{
+    kind_named(object.get("kind")?.as_str()?)
 }
 
 // The id of an entity, by its text.
@@ -159,7 +215,7 @@ fn state(object: &Value, word: &Value) -> Option<State>
     ensures { result ≡ state_in (view object.now) (view word.now) }
 {
     let mode = mode_named(word.as_str()?)?;
-    let rev = object.get("rev")?.as_u64()?;
+    let rev = number_at(object, "rev")?;
     Some(State { mode, rev })
 }
 
@@ -261,6 +317,6 @@ fn revision_entry(object: &Value, word: &str) -> Option<Entry>
 {
     let cause = cause_named(word)?;
     let event = event(object.get("event")?)?;
-    let rev = object.get("rev")?.as_u64()?;
+    let rev = number_at(object, "rev")?;
     Some(Entry::Revision(event, rev, cause))
 }

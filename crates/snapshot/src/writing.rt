@@ -1,10 +1,9 @@
 // The JSON value of each line, and its text.
 
-ghost use Rattle.std.specs.Prelude.{◌≡◌, IfOk, codes, string_bytes};
-ghost use Rattle.serde_json.specs.{Data.no_members, Data.member, Data.string, Data.object, View.view, View.members_view};
-ghost use Rattle.side_output.specs.declared.entry.Entry.TheVariants.{Revision};
-ghost use Rattle.snapshot.specs.{declared.line.Line.TheVariants.End, Words.mode_word, Words.version_number};
-ghost use Rattle.snapshot.specs.LineData.{has_line_feed, if_some, nat_data, int_data, event_data, event_members, held_data, head_data, record_data, entry_data, line_data};
+ghost use Rattle.std.specs.Prelude.{◌≡◌, IfOk, OnOk};
+ghost use Rattle.serde_json.specs.{Data.no_members, View.view, View.members_view};
+ghost use Rattle.snapshot.specs.Words.{mode_word, version_number};
+ghost use Rattle.snapshot.specs.LineData.{has_line_feed, if_some, nat_data, int_data, event_data, event_members, held_data, held_members, head_members, record_members, told_members, entry_members, line_members, line_data};
 
 use crate::line::{Head, Line};
 use entity_model::{EntityId, Event, MappingVersion};
@@ -12,38 +11,48 @@ use entity_state::{Held, Mode, Record};
 use rdf_term::{OutOfMemory, Text};
 use replay_model::{cause_word, kind_word};
 use serde_json::{Map, Value};
-use side_output::{Cause, Entry};
+use side_output::Entry;
 use std::alloc::Global;
 
 /// The value of a line, but for a page that stands behind a record.
 pub(crate) fn line_value(alloc: Global, line: &Line) -> Result<Value, OutOfMemory>
     ensures { IfOk result (λ v. view v ≡ line_data line.now) }
 {
+    let mut object = Map::new(alloc);
+    put_line(alloc, line, &mut object)?;
+    Ok(Value::Object(object))
+}
+
+// Puts the members of a line into an object that has none. The object is the caller's, so that a way out of here doesn't drop it.
+fn put_line(alloc: Global, line: &Line, object: &mut Map<String, Value>) -> Result<(), OutOfMemory>
+    requires { members_view object.old.entries ≡ no_members }
+    ensures { OnOk result (members_view object.new.entries ≡ line_members line.now) }
+{
     match line {
-        Line::Head(head) => head_value(alloc, head),
-        Line::Remembered(event) => event_value(alloc, event),
-        Line::Entity(id, record) => record_value(alloc, *id, record),
-        Line::Side(entry) => entry_value(alloc, entry),
-        Line::End(lines) => end_value(alloc, *lines),
+        Line::Head(head) => put_head(alloc, head, object),
+        Line::Remembered(event) => put_event(alloc, event, object),
+        Line::Entity(id, record) => put_record(alloc, *id, record, object),
+        Line::Side(entry) => put_entry(alloc, entry, object),
+        Line::End(lines) => Ok(serde_json::put(object, alloc, "end", Value::from(*lines))?),
     }
 }
 
-// The value of the head.
-fn head_value(alloc: Global, head: &Head) -> Result<Value, OutOfMemory>
-    ensures { IfOk result (λ v. view v ≡ head_data head.now) }
+// Puts the members of the head.
+fn put_head(alloc: Global, head: &Head, object: &mut Map<String, Value>) -> Result<(), OutOfMemory>
+    requires { members_view object.old.entries ≡ no_members }
+    ensures { OnOk result (members_view object.new.entries ≡ head_members head.now) }
 {
+    let counts = head.counts;
     let mapping = version_number(head.mapping);
-    let mark = int_or_null(head.mark);
-    let horizon = nat_or_null(head.horizon);
-    let mut map = Map::new(alloc);
-    serde_json::put(&mut map, alloc, "asks", Value::from(head.asks))?;
-    serde_json::put(&mut map, alloc, "horizon", horizon)?;
-    serde_json::put(&mut map, alloc, "mapping", Value::from(mapping))?;
-    serde_json::put(&mut map, alloc, "mark", mark)?;
-    serde_json::put(&mut map, alloc, "matches", Value::from(head.matches))?;
-    serde_json::put(&mut map, alloc, "patches", Value::from(head.patches))?;
-    serde_json::put(&mut map, alloc, "snapshot", Value::from(2u64))?;
-    Ok(Value::Object(map))
+    serde_json::put(object, alloc, "asks", Value::from(counts.asks))?;
+    serde_json::put(object, alloc, "horizon", nat_or_null(head.horizon))?;
+    serde_json::put(object, alloc, "lines", Value::from(counts.lines))?;
+    serde_json::put(object, alloc, "mapping", Value::from(mapping))?;
+    serde_json::put(object, alloc, "mark", int_or_null(head.mark))?;
+    serde_json::put(object, alloc, "matches", Value::from(counts.matches))?;
+    serde_json::put(object, alloc, "patches", Value::from(counts.patches))?;
+    serde_json::put(object, alloc, "snapshot", Value::from(3u64))?;
+    Ok(())
 }
 
 // The value of a number, or null.
@@ -76,21 +85,26 @@ fn version_number(version: MappingVersion) -> u64
     }
 }
 
-// The value of the record of an entity.
-fn record_value(alloc: Global, id: EntityId, kept: &Record<Text>) -> Result<Value, OutOfMemory>
-    ensures { IfOk result (λ v. view v ≡ record_data id kept.now) }
+// Puts the members of the record of an entity.
+fn put_record(
+    alloc: Global,
+    id: EntityId,
+    kept: &Record<Text>,
+    object: &mut Map<String, Value>,
+) -> Result<(), OutOfMemory>
+    requires { members_view object.old.entries ≡ no_members }
+    ensures { OnOk result (members_view object.new.entries ≡ record_members id kept.now) }
 {
     let entity = Value::from(id.text(alloc)?.into_string());
+    serde_json::put(object, alloc, "entity", entity)?;
     let held = held_or_null(alloc, &kept.held)?;
+    serde_json::put(object, alloc, "held", held)?;
     let reconciled = event_or_null(alloc, kept.reconciled)?;
+    serde_json::put(object, alloc, "reconciled", reconciled)?;
+    serde_json::put(object, alloc, "rev", Value::from(kept.state.rev))?;
     let mode = Value::try_from_str(alloc, mode_word(kept.state.mode))?;
-    let mut map = Map::new(alloc);
-    serde_json::put(&mut map, alloc, "entity", entity)?;
-    serde_json::put(&mut map, alloc, "held", held)?;
-    serde_json::put(&mut map, alloc, "reconciled", reconciled)?;
-    serde_json::put(&mut map, alloc, "rev", Value::from(kept.state.rev))?;
-    serde_json::put(&mut map, alloc, "state", mode)?;
-    Ok(Value::Object(map))
+    serde_json::put(object, alloc, "state", mode)?;
+    Ok(())
 }
 
 // The value of what is held, or null.
@@ -103,20 +117,32 @@ fn held_or_null(alloc: Global, held: &Option<Held<Text>>) -> Result<Value, OutOf
     }
 }
 
-// The value of what is held: its page is a string where it has a line feed, and else stands behind the record.
+// The value of what is held.
 fn held_value(alloc: Global, held: &Held<Text>) -> Result<Value, OutOfMemory>
     ensures { IfOk result (λ v. view v ≡ held_data held.now) }
 {
+    let mut object = Map::new(alloc);
+    put_held(alloc, held, &mut object)?;
+    Ok(Value::Object(object))
+}
+
+// Puts the members of what is held: its page is a string where it has a line feed, and else stands behind the record.
+fn put_held(
+    alloc: Global,
+    held: &Held<Text>,
+    object: &mut Map<String, Value>,
+) -> Result<(), OutOfMemory>
+    requires { members_view object.old.entries ≡ no_members }
+    ensures { OnOk result (members_view object.new.entries ≡ held_members (has_line_feed held.now.content) held.now) }
+{
     let page = held.content.as_str();
-    let mut map = Map::new(alloc);
     if has_line_feed(page) {
         let page = Value::try_from_str(alloc, page)?;
-        serde_json::put(&mut map, alloc, "page", page)?;
-        serde_json::put(&mut map, alloc, "rev", Value::from(held.revision))?;
-        return Ok(Value::Object(map));
+        serde_json::put(object, alloc, "page", page)?;
+        serde_json::put(object, alloc, "rev", Value::from(held.revision))?;
+        return Ok(());
     }
-    serde_json::put(&mut map, alloc, "rev", Value::from(held.revision))?;
-    Ok(Value::Object(map))
+    Ok(serde_json::put(object, alloc, "rev", Value::from(held.revision))?)
 }
 
 /// Whether a page has a line feed, so that it can't stand in a line as it is.
@@ -136,74 +162,66 @@ fn event_or_null(alloc: Global, event: Option<Event>) -> Result<Value, OutOfMemo
     }
 }
 
-// The value of an entry of the side output.
-fn entry_value(alloc: Global, entry: &Entry) -> Result<Value, OutOfMemory>
-    ensures { IfOk result (λ v. view v ≡ entry_data entry.now) }
+// Puts the members of an entry of the side output.
+fn put_entry(
+    alloc: Global,
+    entry: &Entry,
+    object: &mut Map<String, Value>,
+) -> Result<(), OutOfMemory>
+    requires { members_view object.old.entries ≡ no_members }
+    ensures { OnOk result (members_view object.new.entries ≡ entry_members entry.now) }
 {
     match entry {
-        Entry::Late(event) => late_value(alloc, event),
-        Entry::Revision(event, rev, cause) => revision_value(alloc, event, *rev, *cause),
+        Entry::Late(event) => put_told(alloc, "late", event, object),
+        Entry::Revision(event, rev, cause) => {
+            put_told(alloc, cause_word(*cause), event, object)?;
+            Ok(serde_json::put(object, alloc, "rev", Value::from(*rev))?)
+        }
     }
 }
 
-// The value of the entry of a late event.
-fn late_value(alloc: Global, event: &Event) -> Result<Value, OutOfMemory>
-    ensures { IfOk result (λ v. view v ≡ object (member (codes "entry") (string (codes "late")) (member (codes "event") (event_data event.now) no_members))) }
-{
-    let event = event_value(alloc, event)?;
-    let word = Value::try_from_str(alloc, "late")?;
-    let mut map = Map::new(alloc);
-    serde_json::put(&mut map, alloc, "entry", word)?;
-    serde_json::put(&mut map, alloc, "event", event)?;
-    Ok(Value::Object(map))
-}
-
-// The value of the entry of a revision that was fetched in vain.
-fn revision_value(
+// Puts the word of an entry and its event.
+fn put_told(
     alloc: Global,
+    word: &str,
     event: &Event,
-    rev: u64,
-    cause: Cause,
-) -> Result<Value, OutOfMemory>
-    ensures { IfOk result (λ v. view v ≡ entry_data (Revision event.now rev cause)) }
+    object: &mut Map<String, Value>,
+) -> Result<(), OutOfMemory>
+    requires { members_view object.old.entries ≡ no_members }
+    ensures { OnOk result (members_view object.new.entries ≡ told_members word.now event.now no_members) }
 {
+    let word = Value::try_from_str(alloc, word)?;
+    serde_json::put(object, alloc, "entry", word)?;
     let event = event_value(alloc, event)?;
-    let word = Value::try_from_str(alloc, cause_word(cause))?;
-    let mut map = Map::new(alloc);
-    serde_json::put(&mut map, alloc, "entry", word)?;
-    serde_json::put(&mut map, alloc, "event", event)?;
-    serde_json::put(&mut map, alloc, "rev", Value::from(rev))?;
-    Ok(Value::Object(map))
-}
-
-// The value of the last line.
-fn end_value(alloc: Global, lines: u64) -> Result<Value, OutOfMemory>
-    ensures { IfOk result (λ v. view v ≡ line_data (End lines)) }
-{
-    let mut map = Map::new(alloc);
-    serde_json::put(&mut map, alloc, "end", Value::from(lines))?;
-    Ok(Value::Object(map))
+    serde_json::put(object, alloc, "event", event)?;
+    Ok(())
 }
 
 // The value of an event.
 fn event_value(alloc: Global, event: &Event) -> Result<Value, OutOfMemory>
     ensures { IfOk result (λ v. view v ≡ event_data event.now) }
 {
-    Ok(Value::Object(event_map(alloc, event)?))
+    let mut object = Map::new(alloc);
+    put_event(alloc, event, &mut object)?;
+    Ok(Value::Object(object))
 }
 
-// The members of an event.
-fn event_map(alloc: Global, event: &Event) -> Result<Map<String, Value>, OutOfMemory>
-    ensures { IfOk result (λ map. members_view map.entries ≡ event_members event.now) }
+// Puts the members of an event.
+fn put_event(
+    alloc: Global,
+    event: &Event,
+    object: &mut Map<String, Value>,
+) -> Result<(), OutOfMemory>
+    requires { members_view object.old.entries ≡ no_members }
+    ensures { OnOk result (members_view object.new.entries ≡ event_members event.now) }
 {
     let entity = event.entity.text(alloc)?.into_string();
-    let mut map = Map::new(alloc);
-    serde_json::put(&mut map, alloc, "entity", Value::from(entity))?;
+    serde_json::put(object, alloc, "entity", Value::from(entity))?;
     let kind = Value::try_from_str(alloc, kind_word(event.kind))?;
-    serde_json::put(&mut map, alloc, "kind", kind)?;
-    serde_json::put(&mut map, alloc, "micros", Value::from(event.time))?;
-    serde_json::put(&mut map, alloc, "rev", Value::from(event.rev))?;
-    Ok(map)
+    serde_json::put(object, alloc, "kind", kind)?;
+    serde_json::put(object, alloc, "micros", Value::from(event.time))?;
+    serde_json::put(object, alloc, "rev", Value::from(event.rev))?;
+    Ok(())
 }
 
 // The word for whether a page is there.

@@ -59,10 +59,10 @@ returns-in-Ok-clause-saved g c =
     let none = rw c.in_default.is at c.in_ok-number.ensures.line in
     let same = rw c.in_default.is at c.in_ok-number.ensures.number in
     let equal : taken c.next.new.self ≡ c.loop-line.length = search rules in
-    all_loaded c.args.loader.now.world.limit _ (g.S.Source.left c.next.new.source) c.next.new.self c.loop-line.loader.world c.loop-line.loader.stage c.in-Ok.numbers _ _
+    all_loaded c.args.loader.now.world.limit _ (g.S.Source.left c.next.new.source) c.next.new.self c.loop-line.loader.world c.loop-line.loader.stage c.in-Ok.counts _ _
     (none_left c.args.loader.now.world.limit _ _ (g.S.Source.left c.next.new.source) _ c.next.new.self _ _ _ _ c.next.new.line.items c.loop-line.invariant.0 none.1 c.in_ok-number.ensures.length same
     c.in_ok-number.ensures.goes_on c.in_ok-number.ensures.ended)
-    (rw none.1 none.0) equal c.in-Ok.ensures.numbers
+    (rw none.1 none.0) equal c.in-Ok.ensures.counts
 
 pub returns-in-Ok-clause-applied : goal.returns-in-Ok-clause-applied
 returns-in-Ok-clause-applied g c =
@@ -76,7 +76,7 @@ pub returns-in-Ok-clause-held : goal.returns-in-Ok-clause-held
 returns-in-Ok-clause-held g c = c.loop-line.invariant.0.ready.held
 
 pub returns-in-Ok-clause-counts : goal.returns-in-Ok-clause-counts
-returns-in-Ok-clause-counts g c = subst AreStageWithin c.in-Ok.ensures.numbers c.loop-line.invariant.0.ready.within
+returns-in-Ok-clause-counts g c = subst AreStageWithin c.in-Ok.ensures.counts c.loop-line.invariant.0.ready.within
 
 pub returns-in-Ok-clause-whole : goal.returns-in-Ok-clause-whole
 returns-in-Ok-clause-whole g c =
@@ -87,7 +87,8 @@ pub returns-clause-fault : goal.returns-clause-fault
 returns-clause-fault g c =
     let none = rw c.in_default.is at c.in_ok-number.ensures.line in
     let same = rw c.in_default.is at c.in_ok-number.ensures.number in
+    let equal : taken c.next.new.self ≡ c.loop-line.length = search rules in
     rw c.in-Err.ensures.fault (early_stops c.args.loader.now.world.limit _ (g.S.Source.left c.next.new.source) c.next.new.self _ _ c.loop-line.given _
     (none_left c.args.loader.now.world.limit _ _ (g.S.Source.left c.next.new.source) _ c.next.new.self _ _ _ _ c.next.new.line.items c.loop-line.invariant.0 none.1 c.in_ok-number.ensures.length same
     c.in_ok-number.ensures.goes_on c.in_ok-number.ensures.ended)
-    (rw none.1 none.0) (c.in-Err.ensures.short c.loop-line.loader.world) 0 0)
+    (rw none.1 none.0) equal (c.in-Err.ensures.short c.loop-line.loader.world) 0 0)

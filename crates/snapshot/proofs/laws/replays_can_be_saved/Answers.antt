@@ -1,7 +1,5 @@
 use Rattle.std.proofs.Common.{refl}
-use Rattle.snapshot.proofs.ReplaySaved.{waiting_by_mark, following_at_rest}
-use Rattle.snapshot.proofs.ReplayFits.{following_fits}
-use Rattle.snapshot.proofs.TakenBack.{taken_back}
+use Rattle.snapshot.proofs.{ReplaySaved.waiting_by_mark, ReplaySaved.following_at_rest, ReplayFits.following_fits, TakenBack.taken_back}
 use Rattle.snapshot.proofs.laws.replays_can_be_saved.Goals as goal
 
 pub returns : goal.returns

@@ -2,8 +2,7 @@
 use Rattle.std.proofs.Common.{◌∙◌, ap, refl, subst, sym}
 use Rattle.std.specs.FinMap.{len-empty}
 use Rattle.world.specs.WorldState.{WorldState}
-use Rattle.checkpoint.specs.declared.loader.Stage.TheVariants.{Unbegun}
-use Rattle.checkpoint.specs.Loading.{IsReady}
+use Rattle.checkpoint.specs.{declared.loader.Stage.TheVariants.Unbegun, Loading.IsReady}
 use Rattle.checkpoint.proofs.Steps.{new_ready}
 use Rattle.checkpoint.proofs.loader.Loader.new.Goals as goal
 

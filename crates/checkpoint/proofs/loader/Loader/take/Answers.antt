@@ -1,16 +1,13 @@
 -- After each line the world may take more.
 use Rattle.std.proofs.Common.{◌-◌, sym, subst}
 use Rattle.std.specs.Result.{OnOk}
-use Rattle.checkpoint.specs.declared.loader.Stage.{Stage}
-use Rattle.snapshot.specs.Whole.{beginning}
-use Rattle.checkpoint.specs.Loading.{IsReady}
-use Rattle.checkpoint.specs.Saved.{AreWithin, numbers_of}
+use Rattle.checkpoint.specs.{declared.loader.Stage.Stage, Loading.IsReady, Saved.AreWithin}
 use Rattle.checkpoint.proofs.Steps.{entry_ready, event_ready, head_ready, on_ok_both, record_ready}
 use Rattle.checkpoint.proofs.loader.Loader.take.Goals as goal
 
 pub returns-else-not-are_within-clause-ready : goal.returns-else-not-are_within-clause-ready
 returns-else-not-are_within-clause-ready c =
-    let within : AreWithin (numbers_of (beginning c.in-Unbegun-Head.head)) = rw (← c.of_head.ensures) (c.are_within.ensures.0 c.if-not-are_within.false) in
+    let within : AreWithin c.in-Unbegun-Head.head.counts = c.are_within.ensures.0 c.if-not-are_within.false in
     subst (λ (s : Stage). IsReady c.begin.new.self.world s c.args.number) (sym c.begin.ensures.stage)
     (head_ready c.args.self.now.world c.begin.new.self.world (c.args.number - 1) c.args.number c.in-Unbegun-Head.head _
     (subst (λ (s : Stage). IsReady c.args.self.now.world s (c.args.number - 1)) c.in-Unbegun-Head.is-0 c.requires.ready) c.begin.ensures.world within)
