@@ -16,6 +16,8 @@ pub record Choices : Type 0 where
   pub side : Bool
   -- the file that the snapshot is written to
   pub save : Option (List ℕ)
+  -- after how many watermark lines the snapshot is written each time, if it is written on the way
+  pub every : Option ℕ
   -- the file of the snapshot that the run goes on from
   pub resume : Option (List ℕ)
 
@@ -30,6 +32,7 @@ choices_of table items = record {
   state = is_there (codes "--state") items;
   side = is_there (codes "--side") items;
   save = value_in (codes "--save") items;
+  every = number_in table (codes "--every") items;
   resume = value_in (codes "--resume") items;
 }
 
@@ -53,9 +56,11 @@ closes c = is_none c.save
 abbrev pub IsItemInRange : List ℕ → Option ℕ → Type 0
 IsItemInRange name value = IfSome value (IsInRange (kind_in replay_table name))
 
--- the most bytes, the most terms and the horizon are in their ranges
+-- the numbers that are there are in their ranges
 abbrev pub IsAllowed : Choices → Type 0
-IsAllowed c = IsItemInRange (codes "--max-bytes") c.max_bytes × IsItemInRange (codes "--max-terms") c.max_terms × IsItemInRange (codes "--horizon") c.horizon
+IsAllowed c =
+    IsItemInRange (codes "--max-bytes") c.max_bytes × IsItemInRange (codes "--max-terms") c.max_terms
+    × IsItemInRange (codes "--horizon") c.horizon × IsItemInRange (codes "--every") c.every
 
 -- the most bytes are no more than a patch stream may read, which numbers its records in 64 bits
 abbrev pub IsBounded : Choices → Type 0
@@ -92,6 +97,7 @@ split_choices_of items route = record {
     state = false;
     side = false;
     save = value_in (codes "--save") items;
+    every = number_in split_table (codes "--every") items;
     resume = value_in (codes "--resume") items;
   };
 }

@@ -43,6 +43,7 @@ replay_table =
     ∷ entry (codes "--state") Flag
     ∷ entry (codes "--side") Flag
     ∷ entry (codes "--save") Text
+    ∷ entry (codes "--every") (Number 1 4294967295)
     ∷ entry (codes "--resume") Text
     ∷ []
 
@@ -58,6 +59,7 @@ patches_table =
     ∷ entry (codes "--max-terms") (Number 1 4294967295)
     ∷ entry (codes "--horizon") (Number 0 9223372036854775807)
     ∷ entry (codes "--save") Text
+    ∷ entry (codes "--every") (Number 1 4294967295)
     ∷ entry (codes "--resume") Text
     ∷ []
 
@@ -74,6 +76,7 @@ split_table =
     ∷ entry (codes "--max-terms") (Number 1 4294967295)
     ∷ entry (codes "--horizon") (Number 0 9223372036854775807)
     ∷ entry (codes "--save") Text
+    ∷ entry (codes "--every") (Number 1 4294967295)
     ∷ entry (codes "--resume") Text
     ∷ []
 

@@ -1,7 +1,7 @@
 // What a replay, a patch stream, a follower and a split are asked for.
 
-ghost use Rattle.std.specs.Prelude.{◌≡◌, ◌⊎◌, ◌≤◌, ◌^◌, codes, option_map};
-ghost use Rattle.arguments.specs.{Items.number_in, Table.split_table, Table.table_of};
+ghost use Rattle.std.specs.Prelude.{◌≡◌, ◌⊎◌, ℕ, ◌≤◌, ◌^◌, codes, option_map, IfSome};
+ghost use Rattle.arguments.specs.{Items.number_in, Table.IsInRange, Table.kind_in, Table.table_of};
 ghost use Rattle.arguments.specs.Options.{IsAllowed, IsBounded, IsItemInRange, choices_of, follow_choices_of, follow_max_bytes_of, max_bytes_of, closes, folder_of, max_terms_of, split_choices_of};
 ghost use Rattle.arguments.specs.declared.table.Command.TheVariants.{Replay, Patches, Follow, Split};
 
@@ -28,6 +28,7 @@ pub struct ReplayOptions<'a> {
     state: bool,
     side: bool,
     save: Option<&'a str>,
+    every: Option<u32>,
     resume: Option<&'a str>,
 }
 
@@ -47,10 +48,12 @@ impl<'a> Model for ReplayOptions<'a> {
       state = a.state;
       side = a.side;
       save = option_map (λ p. p.now) a.save;
+      every = a.every;
       resume = option_map (λ p. p.now) a.resume;
     } };
 
-    ghost invariant = { λ a. IsItemInRange (codes "--max-bytes") a.max_bytes × IsItemInRange (codes "--max-terms") a.max_terms × IsItemInRange (codes "--horizon") a.horizon };
+    ghost invariant = { λ a. IsItemInRange (codes "--max-bytes") a.max_bytes × IsItemInRange (codes "--max-terms") a.max_terms
+        × IsItemInRange (codes "--horizon") a.horizon × IsItemInRange (codes "--every") a.every };
 }
 
 impl<'a> ReplayOptions<'a> {
@@ -63,12 +66,13 @@ impl<'a> ReplayOptions<'a> {
         ReplayOptions {
             folder: items.text("--from"),
             max_bytes: items.number("--max-bytes"),
-            max_terms: max_terms_in(items),
+            max_terms: small_number(items, "--max-terms"),
             horizon: items.number("--horizon"),
             export: items.has("--export"),
             state: items.has("--state"),
             side: items.has("--side"),
             save: items.text("--save"),
+            every: small_number(items, "--every"),
             resume: items.text("--resume"),
         }
     }
@@ -134,6 +138,14 @@ impl<'a> ReplayOptions<'a> {
         self.save
     }
 
+    /// After how many watermark lines the snapshot is written each time, if it is written on the way.
+    pub fn every(&self) -> Option<u32>
+        ensures value { result ≡ self.now.every }
+        ensures within { IsItemInRange (codes "--every") result }
+    {
+        self.every
+    }
+
     /// The file of the snapshot from which the run goes on, if it goes on from one.
     pub fn resume(&self) -> Option<&'a str>
         ensures { option_map (λ p. p.now) result ≡ self.now.resume }
@@ -149,14 +161,14 @@ impl<'a> ReplayOptions<'a> {
     }
 }
 
-// The most terms that the items say.
-fn max_terms_in(items: &Request<'_>) -> Option<u32>
-    requires { (items.now.command ≡ Replay) ⊎ (items.now.command ≡ Patches) }
-    ensures value { result ≡ number_in (table_of items.now.command) (codes "--max-terms") items.now.items }
-    ensures within { IsItemInRange (codes "--max-terms") result }
+// The number that the item with this name has, if it is there; its range is within 32 bits.
+fn small_number(items: &Request<'_>, name: &str) -> Option<u32>
+    requires { (n : ℕ) → IsInRange (kind_in (table_of items.now.command) name.now) n → n ≤ 4294967295 }
+    ensures value { result ≡ number_in (table_of items.now.command) name.now items.now.items }
+    ensures within { IfSome result (IsInRange (kind_in (table_of items.now.command) name.now)) }
 {
-    let terms = items.number("--max-terms")?;
-    Some(terms as u32)
+    let number = items.number(name)?;
+    Some(number as u32)
 }
 
 /// What a follower is asked for, as the arguments say it.
@@ -229,12 +241,13 @@ impl<'a> SplitOptions<'a> {
         let replay = ReplayOptions {
             folder: items.text("--from"),
             max_bytes: items.number("--max-bytes"),
-            max_terms: max_terms_of_split(items),
+            max_terms: small_number(items, "--max-terms"),
             horizon: items.number("--horizon"),
             export: false,
             state: false,
             side: false,
             save: items.text("--save"),
+            every: small_number(items, "--every"),
             resume: items.text("--resume"),
         };
         SplitOptions { route, replay }
@@ -253,14 +266,4 @@ impl<'a> SplitOptions<'a> {
     {
         &self.replay
     }
-}
-
-// The most terms that the items of a split say.
-fn max_terms_of_split(items: &Request<'_>) -> Option<u32>
-    requires { items.now.command ≡ Split }
-    ensures value { result ≡ number_in split_table (codes "--max-terms") items.now.items }
-    ensures within { IsItemInRange (codes "--max-terms") result }
-{
-    let terms = items.number("--max-terms")?;
-    Some(terms as u32)
 }

@@ -1,7 +1,7 @@
 // What the arguments ask for.
 
 ghost use Rattle.std.specs.Prelude.{◌≡◌, map, string_bytes, IfSome};
-ghost use Rattle.arguments.specs.Plan.{IsSized, asked, plan_of};
+ghost use Rattle.arguments.specs.Plan.{IsSized, asked, asked_by, has_file, plan_of};
 
 use crate::items::Request;
 use crate::options::{FollowOptions, ReplayOptions, SplitOptions};
@@ -22,8 +22,8 @@ pub enum Plan<'a> {
     Split(SplitOptions<'a>),
 }
 
-/// The plan that the arguments are: a command, and then items of its table in any order, each at most once; a drill has its size, and a
-/// split the text of its routes.
+/// The plan that the arguments are: a command, and then items of its table in any order, each at most once; a drill has its size, a split
+/// the text of its routes, and a run that saves on the way its file.
 pub fn read_plan<'a>(words: &'a [String]) -> Option<Plan<'a>>
     ensures value { result ≡ plan_of (map (λ w. string_bytes w) words.now) }
     ensures sized { IfSome result IsSized }
@@ -34,9 +34,28 @@ pub fn read_plan<'a>(words: &'a [String]) -> Option<Plan<'a>>
     asked(&request)
 }
 
-// What a command and its items ask for.
+// What a command and its items ask for, where a world that is saved on the way has a file to be saved to.
 fn asked<'a>(request: &Request<'a>) -> Option<Plan<'a>>
     ensures value { result ≡ asked request.now.command request.now.items }
+    ensures sized { IfSome result IsSized }
+{
+    if has_file(request) {
+        asked_by(request)
+    } else {
+        None
+    }
+}
+
+// Whether a world that is saved on the way has a file to be saved to.
+fn has_file(request: &Request<'_>) -> bool
+    ensures { result ≡ has_file request.now.items }
+{
+    request.has("--save") || !request.has("--every")
+}
+
+// What a command and its items ask for.
+fn asked_by<'a>(request: &Request<'a>) -> Option<Plan<'a>>
+    ensures value { result ≡ asked_by request.now.command request.now.items }
     ensures sized { IfSome result IsSized }
 {
     match request.command() {

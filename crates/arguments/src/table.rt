@@ -71,6 +71,7 @@ fn replay_kind(name: &str) -> Option<ValueKind>
         "--state" => Some(ValueKind::Flag),
         "--side" => Some(ValueKind::Flag),
         "--save" => Some(ValueKind::Text),
+        "--every" => Some(ValueKind::Number(1, 4_294_967_295)),
         "--resume" => Some(ValueKind::Text),
         _ => None,
     }
@@ -96,6 +97,7 @@ fn patches_kind(name: &str) -> Option<ValueKind>
         "--max-terms" => Some(ValueKind::Number(1, 4_294_967_295)),
         "--horizon" => Some(ValueKind::Number(0, 9_223_372_036_854_775_807)),
         "--save" => Some(ValueKind::Text),
+        "--every" => Some(ValueKind::Number(1, 4_294_967_295)),
         "--resume" => Some(ValueKind::Text),
         _ => None,
     }
@@ -123,6 +125,7 @@ fn split_kind(name: &str) -> Option<ValueKind>
         "--max-terms" => Some(ValueKind::Number(1, 4_294_967_295)),
         "--horizon" => Some(ValueKind::Number(0, 9_223_372_036_854_775_807)),
         "--save" => Some(ValueKind::Text),
+        "--every" => Some(ValueKind::Number(1, 4_294_967_295)),
         "--resume" => Some(ValueKind::Text),
         _ => None,
     }
