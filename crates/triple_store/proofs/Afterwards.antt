@@ -1,42 +1,48 @@
 -- What an owner has after others came to what is left of its triples.
-use Rattle.std.proofs.Common.{◌≡◌, ℕ, ◌+◌, ◌<◌, ◌≤◌, Bool, true, false, ⊎_elim, List, [], ◌∷◌, ◌++◌, length, get_or, refl, sym, ◌∙◌, ap, subst, arith, true≢false}
+use Rattle.std.proofs.Common.{◌≡◌, ℕ, ◌+◌, ◌<◌, ◌≤◌, true, false, ⊎_elim, List, [], ◌∷◌, ◌++◌, length, get_or, refl, sym, ◌∙◌, ap, subst, arith, true≢false, take}
 use Rattle.std.specs.List.{flat_map}
 use Rattle.std.specs.FinMap as map
 use Rattle.term_pool.specs.Pool.{one_if}
-use Rattle.sorted_sets.specs.Rising.{IsRising, has}
-use Rattle.sorted_sets.proofs.Rising.{has-append, sorted_same}
-use Rattle.sorted_sets.proofs.Bools.{or_true}
-use Rattle.rdf_term.specs.declared.term.Term.{Term}
-use Rattle.rdf_term.specs.declared.triple.Triple.{Triple}
-use Rattle.rdf_term.specs.Order.{term_cmp, term_cmp-total, triple_cmp}
+use Rattle.sorted_sets.specs.Rising.{IsRising, difference, has, sorted}
+use Rattle.sorted_sets.proofs.{Rising.has-append, Rising.sorted_same, Rising.has-sorted, Bools.or_true}
+use Rattle.rdf_term.specs.{declared.term.Term.Term, declared.triple.Triple.Triple, Order.term_cmp, Order.term_cmp-total, Order.triple_cmp}
 use Rattle.rdf_term.proofs.Texts.{term_cmp-IsAntisymmetric}
 use Rattle.text_region.specs.Region.{Texts}
-use Rattle.slot_keys.specs.declared.key.Key.{Key}
-use Rattle.slot_keys.specs.KeyCounts.{MovesKeys, count_beside, counted_keys}
+use Rattle.slot_keys.specs.{declared.key.Key.Key, KeyCounts.MovesKeys, KeyCounts.count_beside, KeyCounts.counted_keys}
 use Rattle.slot_keys.specs.Keys.{key_cmp, key_cmp-total}
-use Rattle.slot_keys.proofs.Lists.{has_at, never, one_of, or_left}
-use Rattle.slot_keys.proofs.Searching.{beside_at, beside_none}
-use Rattle.triple_store.specs.declared.catalog.Catalog.{Catalog}
-use Rattle.triple_store.specs.declared.updates.Exchange.{Exchange}
-use Rattle.triple_store.specs.declared.telling.Telling.{Telling}
-use Rattle.triple_store.specs.Counts.{Counts, Exchanges, count_of}
-use Rattle.triple_store.specs.Moves.{triples_at}
-use Rattle.triple_store.specs.Updates.{HasExchanged}
-use Rattle.triple_store.specs.Parts.{StandFor}
-use Rattle.triple_store.specs.Room.{room_for, terms_of}
-use Rattle.triple_store.specs.Slots.{triple_at}
-use Rattle.triple_store.specs.Stored.{AreKeysOf, HasKey, IsStored, KeepsKeys, counts_in, is_key, limit_of}
-use Rattle.triple_store.specs.Telling.{TellsIf}
+use Rattle.slot_keys.proofs.{Lists.has_at, Lists.never, Lists.one_of, Lists.or_left, Searching.beside_at, Searching.beside_none}
+use Rattle.triple_catalog.specs.{declared.catalog.Catalog.Catalog, Counts.Counts, Counts.Exchanges, Counts.count_of, Lines.sole}
+use Rattle.triple_catalog.specs.{Moves.Removes, Moves.TakesIn, Moves.triples_at, Room.room_for, Room.terms_of, Slots.triple_at}
+use Rattle.triple_catalog.specs.Stored.{AreKeysOf, HasKey, IsStored, KeepsKeys, counts_in, is_key, limit_of}
+use Rattle.triple_store.specs.{declared.updates.Exchange.Exchange, declared.telling.Telling.Telling}
+use Rattle.triple_store.specs.{Updates.HasExchanged, Updates.KeepsRest, Parts.StandFor, Telling.LinesIf, Telling.TellsIf}
 use Rattle.triple_store.specs.Times.{AreTimesOf, ComesTo, times, triple_of_key}
-use Rattle.triple_store.proofs.Becoming.{at_index, becomes, counted-has, either}
-use Rattle.triple_store.proofs.Counted.{key_often}
-use Rattle.triple_store.proofs.Exchanged.{same_test}
-use Rattle.triple_store.proofs.Live.{key_same, tells}
-use Rattle.triple_store.proofs.Parts.{stand_themselves}
-use Rattle.triple_store.proofs.Patched.{no_keys}
-use Rattle.triple_store.proofs.Rooming.{terms_among}
-use Rattle.triple_store.proofs.Standing.{counted_key}
-use Rattle.triple_store.proofs.Stocked.{term_of}
+use Rattle.triple_store.proofs.{Becoming.at_index, Becoming.becomes, Becoming.counted-has, Becoming.either, Counted.key_often}
+use Rattle.triple_store.proofs.{Parts.room_same, Parts.stand_themselves, Parts.taken_with, Patched.no_keys}
+use Rattle.triple_store.proofs.{Stocked.room_within, Stocked.term_of, Differing.tells_if}
+use Rattle.triple_store.proofs.Exchanged.{are_keys, exchanged, keeps}
+use Rattle.triple_catalog.proofs.{Exchanged.same_test, Live.key_same, Live.tells, Rooming.terms_among, Standing.counted_key}
+use Rattle.triple_catalog.proofs.{Again.left_again, Along.along_left}
+use Rattle.std.proofs.Math.Seq.{take-length}
+
+-- keys that were met before others that stay, all of them stored in the end
+pub met_stored : (new : Catalog) (u : Texts) (met stays : List Key) (all : List Triple) → AreKeysOf new u (sorted key_cmp (met ++ stays)) all → (key : Key) → has key_cmp key met ≡ true → is_key new key ≡ true
+met_stored new u met stays all are key is =
+    let one : (t : Triple) × HasKey new u key t × (has triple_cmp t all ≡ true) = are.each key (has-sorted key_cmp-total key (met ++ stays) ∙ (has-append key_cmp key met stays ∙ or_left _ _ is)) in
+    one.1.stored
+
+pub along_then : (st : Catalog) (r : Texts) (now : Catalog) (s : Texts) (had met stays : List Key) (done all : List Triple) → TakesIn st r now s had (met ++ stays) all → (new : Catalog) (u : Texts) (gone : List Key) → Removes now s new u gone → AreKeysOf new u (sorted key_cmp (met ++ stays)) all
+    → triples_at now s met ≡ done → triples_at new u met ≡ done
+along_then st r now s had met stays done all h new u gone less are along =
+    along_left st r now s had (met ++ stays) all h new u gone met less (λ key is. has-append key_cmp key met stays ∙ or_left _ _ is) (met_stored new u met stays all are) ∙ along
+
+-- where triples came before
+pub again : (st : Catalog) (r : Texts) (now : Catalog) (s : Texts) (had keys : List Key) (done : List Triple) → TakesIn st r now s had keys done → (new : Catalog) (u : Texts) (gone : List Key) → Removes now s new u gone → (key : Key) (t : Triple) → HasKey st r key t → is_key new key ≡ true → HasKey new u key t
+again st r now s had keys done h new u gone less key t was is = left_again now s new u gone h.stored less key t (h.kept key t was) is
+
+-- where as many keys came as there are triples, all are done
+pub whole_taken : (st : Catalog) (r : Texts) (now : Catalog) (s : Texts) (had keys : List Key) (triples : List Triple) (n : ℕ) → n ≡ length triples → TakesIn st r now s had keys (take n triples) → TakesIn st r now s had keys triples
+whole_taken st r now s had keys triples n e h = subst (TakesIn st r now s had keys) (ap (λ k. take k triples) e ∙ take-length triples) h
 
 -- ---- lists of the same triples
 
@@ -144,37 +150,47 @@ module _ (st : Catalog) (r : Texts) (had : List Key) (left : List ℕ) (come : L
           );
     }
 
-  -- the new keys are those of the triples that stay and that come
-  pub new_keys : (new : Catalog) (u : Texts) (keys : List Key) → ((some : List Triple) → StandFor st r (counted_keys had left) some → AreKeysOf new u keys (some ++ come)) → AreKeysOf new u keys (kept ++ come)
-  new_keys new u keys are = are kept stand
+  abbrev pub all_keys : List Key → List Key
+  all_keys met = sorted key_cmp (met ++ counted_keys had left)
 
-  pub exchange_done : (new : Catalog) (u : Texts) (telling : Telling) (done : Exchange) (met : List Key) → IsStored new u
-      → ((old some : List Triple) → AreKeysOf st r had old → StandFor st r (counted_keys had left) some → Exchanges (counts_in st r) (counts_in new u) old (some ++ come))
-      → TellsIf telling (counts_in st r) (counts_in new u) done.change
-      → ((some : List Triple) → StandFor st r (counted_keys had left) some → AreKeysOf new u done.keys.rising.items (some ++ come))
-      → ((some : List Triple) → StandFor st r (counted_keys had left) some → room_for (counts_in st r) (some ++ come) ≤ limit_of st)
-      → KeepsKeys st r new u
-      → ((key : Key) (t : Triple) → HasKey st r key t → is_key new key ≡ true → HasKey new u key t)
-      → (0 < length done.times.items → MovesKeys had left done.keys.rising.items done.times.items met)
-      → ((key : Key) → has key_cmp key met ≡ true → is_key new key ≡ true)
-      → triples_at new u met ≡ come
-      → (before after : List Triple) → ComesTo st r had left come before after → HasExchanged telling (record { catalog = st; texts = r }) (record { catalog = new; texts = u }) before after done
-  exchange_done new u telling done met stored_new ok told keys within keeps again moves all_met along before after h =
-      let same : (t : Triple) → has triple_cmp t (kept ++ come) ≡ has triple_cmp t after = becomes st r had left come before after h in
-      let are : AreKeysOf new u done.keys.rising.items after = keys_alike new u done.keys.rising.items (kept ++ come) after same (keys kept stand) in
-      record {
-        counts = exchanges_alike (counts_in st r) (counts_in new u) before (kept ++ come) after same (ok before kept h.keys_of stand);
-        told = told;
-        keys = are;
-        times = λ some. times_after new u done.keys.rising.items stored_new keeps again before after h are done.times.items met (moves some) all_met along;
-        within = subst (λ (n : ℕ). n ≤ limit_of st) (room_alike (counts_in st r) (kept ++ come) after same) (within kept stand);
-      }
+  module _ (now : Catalog) (s : Texts) (met : List Key) (takes : TakesIn st r now s had met come) where
+    -- what came and what stays are taken in together
+    pub taken : TakesIn st r now s had (met ++ counted_keys had left) (kept ++ come)
+    taken = taken_with st r now s had met (counted_keys had left) kept come stored (stays_among had left) stand takes
+
+    pub exchange_done : (new : Catalog) (u : Texts) → Removes now s new u (difference key_cmp had (all_keys met)) → (telling : Telling) (done : Exchange) → done.keys.rising.items ≡ all_keys met
+        → LinesIf telling (sorted triple_cmp (triples_at now s (sole now (all_keys met) had))) (sorted triple_cmp (triples_at now s (sole now had (all_keys met)))) done.change
+        → (0 < length done.times.items → MovesKeys had left done.keys.rising.items done.times.items met)
+        → triples_at now s met ≡ come
+        → (before after : List Triple) → ComesTo st r had left come before after → HasExchanged telling (record { catalog = st; texts = r }) (record { catalog = new; texts = u }) before after done
+    exchange_done new u less telling done keys lines moves along before after h =
+        let beside = met ++ counted_keys had left in
+        let same : (t : Triple) → has triple_cmp t (kept ++ come) ≡ has triple_cmp t after = becomes st r had left come before after h in
+        let all : AreKeysOf new u (all_keys met) (kept ++ come) = are_keys st r now s had beside (kept ++ come) stored there taken new u less in
+        let are : AreKeysOf new u done.keys.rising.items after = keys_alike new u done.keys.rising.items (kept ++ come) after same (subst (λ (ks : List Key). AreKeysOf new u ks (kept ++ come)) (sym keys) all) in
+        record {
+          counts = exchanges_alike (counts_in st r) (counts_in new u) before (kept ++ come) after same (exchanged st r now s had beside (kept ++ come) stored there taken new u less before h.keys_of);
+          told = tells_if st r now s had beside (kept ++ come) stored there taken new u less telling done.change lines;
+          keys = are;
+          times = λ some. times_after new u done.keys.rising.items less.stored (keeps st r now s had beside (kept ++ come) stored there taken new u _ less) (again st r now s had beside (kept ++ come) taken new u _ less) before after h are done.times.items met (moves some)
+              (met_stored new u met (counted_keys had left) (kept ++ come) all) (along_then st r now s had met (counted_keys had left) come (kept ++ come) taken new u _ less all along);
+          within = subst (λ (n : ℕ). n ≤ limit_of st) (sym (room_same st r (counted_keys had left) kept come stored stand) ∙ room_alike (counts_in st r) (kept ++ come) after same) (room_within st r now s had met come stored takes);
+        }
 
   -- or there is no room for what the owner would have
-  pub exchange_full : ((some : List Triple) → StandFor st r (counted_keys had left) some → limit_of st < room_for (counts_in st r) (some ++ come))
-      → (before after : List Triple) → ComesTo st r had left come before after → limit_of st < room_for (counts_in st r) after
+  pub exchange_full : limit_of st < room_for (counts_in st r) come → (before after : List Triple) → ComesTo st r had left come before after → limit_of st < room_for (counts_in st r) after
   exchange_full full before after h =
-      subst (λ (n : ℕ). limit_of st < n) (room_alike (counts_in st r) (kept ++ come) after (becomes st r had left come before after h)) (full kept stand)
+      subst (λ (n : ℕ). limit_of st < n) (sym (room_same st r (counted_keys had left) kept come stored stand) ∙ room_alike (counts_in st r) (kept ++ come) after (becomes st r had left come before after h)) full
+
+-- what came before something went, or was taken back, leaves the rest
+pub rest_after : (st : Catalog) (r : Texts) (now : Catalog) (s : Texts) (had keys : List Key) (done : List Triple) → IsStored st r → ((key : Key) → has key_cmp key had ≡ true → is_key st key ≡ true) → TakesIn st r now s had keys done
+    → (new : Catalog) (u : Texts) (gone : List Key) → Removes now s new u gone → KeepsRest (record { catalog = st; texts = r }) (record { catalog = new; texts = u })
+rest_after st r now s had keys done stored there takes new u gone less = record {
+  keeps = keeps st r now s had keys done stored there takes new u gone less;
+  beside = λ piece. less.beside piece ∙ takes.beside piece;
+  limit = less.limit ∙ takes.limit;
+  sound = less.stored;
+}
 
 -- ---- nothing is left, and nothing comes
 

@@ -1,27 +1,17 @@
 -- What an owner has after others came to what is left of its triples, by how many times each comes.
 use Rattle.std.proofs.Common.{◌≡◌, ℕ, zero, suc, ◌+◌, ◌<◌, ◌≤◌, Bool, true, false, ◌||◌, cond, nat_lt, List, [], ◌∷◌, ◌++◌, length, get_or, ◌⊎◌, inl, inr, ⊎_elim, refl, sym, ◌∙◌, ap, subst, arith, true≢false}
 use Rattle.std.specs.Ordering.{eq_by_cmp}
-use Rattle.std.proofs.lemmas.Bool.Decides.{nat_tests}
-use Rattle.std.proofs.lemmas.List.Sums.{sum_by-cons}
+use Rattle.std.proofs.{lemmas.Bool.Decides.nat_tests, lemmas.List.Sums.sum_by-cons}
 use Rattle.sorted_sets.specs.Rising.{has}
-use Rattle.sorted_sets.proofs.Bools.{equal, or_true}
-use Rattle.sorted_sets.proofs.Rising.{has-append, has_itself}
-use Rattle.rdf_term.specs.declared.triple.Triple.{Triple}
-use Rattle.rdf_term.specs.Order.{triple_cmp}
+use Rattle.sorted_sets.proofs.{Bools.equal, Bools.or_true, Rising.has-append, Rising.has_itself}
+use Rattle.rdf_term.specs.{declared.triple.Triple.Triple, Order.triple_cmp}
 use Rattle.text_region.specs.Region.{Texts}
 use Rattle.term_pool.specs.Pool.{one_if}
-use Rattle.slot_keys.specs.declared.key.Key.{Key}
-use Rattle.slot_keys.specs.KeyCounts.{counted_keys}
-use Rattle.slot_keys.specs.Keys.{key_cmp, key_cmp-IsAntisymmetric, key_cmp-total}
+use Rattle.slot_keys.specs.{declared.key.Key.Key, KeyCounts.counted_keys, Keys.key_cmp, Keys.key_cmp-IsAntisymmetric, Keys.key_cmp-total}
 use Rattle.slot_keys.proofs.Lists.{one_of, or_left}
-use Rattle.triple_store.specs.declared.catalog.Catalog.{Catalog}
-use Rattle.triple_store.specs.Slots.{triple_at}
-use Rattle.triple_store.specs.Stored.{AreKeysOf, HasKey}
-use Rattle.triple_store.specs.Moves.{triples_at}
+use Rattle.triple_catalog.specs.{declared.catalog.Catalog.Catalog, Slots.triple_at, Stored.AreKeysOf, Stored.HasKey, Moves.triples_at}
 use Rattle.triple_store.specs.Times.{AddTimes, AreTimesOf, Becomes, ComesTo, times, triple_of_key}
-use Rattle.triple_store.proofs.Exchanged.{same_test}
-use Rattle.triple_store.proofs.Live.{tells}
-use Rattle.triple_store.proofs.Standing.{has-triples_at, triples_at-has}
+use Rattle.triple_catalog.proofs.{Exchanged.same_test, Live.tells, Standing.has-triples_at, Standing.triples_at-has}
 
 -- a triple stands in a list where it comes once at least
 pub times-cons : (t u : Triple) (ts : List Triple) → times t (u ∷ ts) ≡ cond (eq_by_cmp triple_cmp t u) 1 0 + times t ts

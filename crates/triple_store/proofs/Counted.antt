@@ -3,23 +3,16 @@ use Rattle.std.proofs.Common.{◌≡◌, ℕ, ◌<◌, true, cond, List, [], ◌
 use Rattle.std.specs.Ordering.{eq_by_cmp}
 use Rattle.std.proofs.lemmas.List.Sums.{sum_by-cons}
 use Rattle.sorted_sets.specs.Rising.{has}
-use Rattle.sorted_sets.proofs.Bools.{or_true}
-use Rattle.sorted_sets.proofs.Rising.{has_itself}
+use Rattle.sorted_sets.proofs.{Bools.or_true, Rising.has_itself}
 use Rattle.rdf_term.specs.declared.triple.Triple.{Triple}
 use Rattle.text_region.specs.Region.{Texts}
 use Rattle.term_pool.specs.Pool.{one_if}
-use Rattle.slot_keys.specs.declared.key.Key.{Key}
-use Rattle.slot_keys.specs.KeyCounts.{key_times}
-use Rattle.slot_keys.specs.Keys.{key_cmp, key_cmp-total, same_key}
+use Rattle.slot_keys.specs.{declared.key.Key.Key, KeyCounts.key_times, Keys.key_cmp, Keys.key_cmp-total, Keys.same_key}
 use Rattle.slot_keys.proofs.Lists.{has_at}
-use Rattle.triple_store.specs.declared.catalog.Catalog.{Catalog}
-use Rattle.triple_store.specs.Moves.{triples_at}
-use Rattle.triple_store.specs.Slots.{triple_at}
-use Rattle.triple_store.specs.Stored.{IsStored, is_key}
+use Rattle.triple_catalog.specs.{declared.catalog.Catalog.Catalog, Moves.triples_at, Slots.triple_at, Stored.IsStored, Stored.is_key}
 use Rattle.triple_store.specs.Times.{times, triple_of_key}
 use Rattle.triple_store.proofs.Becoming.{times-cons}
-use Rattle.triple_store.proofs.Live.{same_tests}
-use Rattle.triple_store.proofs.Standing.{stored_key}
+use Rattle.triple_catalog.proofs.{Live.same_tests, Standing.stored_key}
 
 -- ---- a stored key comes as often as its triple
 

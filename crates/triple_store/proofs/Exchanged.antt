@@ -1,33 +1,26 @@
 -- What counts say after the triples of some keys came or went, by the triples.
-use Rattle.std.proofs.Common.{◌≡◌, ℕ, ◌+◌, ◌<◌, Bool, true, false, not, ◌&&◌, List, [], ◌∷◌, refl, sym, ◌∙◌, ap, subst, arith, true≢false}
-use Rattle.std.specs.Prelude.{map as mapped}
+use Rattle.std.proofs.Common.{◌≡◌, ℕ, ◌+◌, ◌<◌, Bool, true, false, not, ◌&&◌, List, refl, sym, ◌∙◌, ap, subst, arith, true≢false}
 use Rattle.sorted_sets.specs.Rising.{has, difference, sorted}
-use Rattle.sorted_sets.proofs.Bools.{and_left, and_right, clash, or_true}
-use Rattle.sorted_sets.proofs.Filtering.{filter_all, has-difference}
-use Rattle.sorted_sets.proofs.Rising.{IsRising-sorted, has-sorted, has_itself}
-use Rattle.rdf_term.specs.declared.triple.Triple.{Triple}
-use Rattle.rdf_term.specs.Order.{triple_cmp}
+use Rattle.sorted_sets.proofs.{Bools.and_left, Bools.and_right, Bools.clash, Filtering.has-difference}
+use Rattle.sorted_sets.proofs.Rising.{IsRising-sorted, has-sorted}
+use Rattle.rdf_term.specs.{declared.triple.Triple.Triple, Order.triple_cmp, Order.triple_cmp-total}
 use Rattle.text_region.specs.Region.{Texts}
 use Rattle.term_pool.specs.Pool.{one_if}
-use Rattle.slot_keys.specs.declared.key.Key.{Key}
-use Rattle.slot_keys.specs.Keys.{key_cmp, key_cmp-total}
+use Rattle.slot_keys.specs.{declared.key.Key.Key, Keys.key_cmp, Keys.key_cmp-total}
 use Rattle.slot_keys.proofs.Lists.{never}
-use Rattle.triple_store.specs.declared.catalog.Catalog.{Catalog}
-use Rattle.triple_store.specs.Counts.{Exchanges, count_of}
-use Rattle.triple_store.specs.Slots.{triple_at}
-use Rattle.triple_store.specs.Stored.{AreKeysOf, HasKey, IsStored, KeepsKeys, counts_in, is_key}
-use Rattle.triple_store.specs.Moves.{Removes, TakesIn, triples_at}
-use Rattle.triple_store.proofs.Owners.{same_counts}
-use Rattle.triple_store.proofs.Removing.{apart}
-use Rattle.triple_store.proofs.Live.{tells}
-use Rattle.triple_store.proofs.Standing.{counted_key, has-triples_at, triples_at-has, owned}
-use Rattle.triple_store.proofs.Taking.{had_key}
+use Rattle.triple_catalog.specs.{declared.catalog.Catalog.Catalog, Counts.Exchanges, Counts.count_of, Counts.Counts, Counts.HaveOwners}
+use Rattle.triple_catalog.specs.Slots.{triple_at}
+use Rattle.triple_catalog.specs.Stored.{AreKeysOf, HasKey, IsStored, KeepsKeys, counts_in, is_key}
+use Rattle.triple_catalog.specs.Moves.{Removes, TakesIn, triples_at}
+use Rattle.triple_catalog.proofs.{Removing.apart, Live.tells}
+use Rattle.triple_catalog.proofs.{Standing.counted_key, Standing.has-triples_at, Standing.triples_at-has, Standing.owned, Taking.had_key}
+use Rattle.triple_catalog.proofs.Exchanged.{same_gone, mapped_alike}
+pub use Rattle.triple_catalog.proofs.Exchanged.{same_test}
+use Rattle.rdf_term.proofs.Texts.{triple_cmp-IsAntisymmetric}
+use Rattle.slot_index.proofs.Raising as raising
 
--- tests that imply each other
-pub same_test : (a b : Bool) → (a ≡ true → b ≡ true) → (b ≡ true → a ≡ true) → a ≡ b
-same_test true b f g = sym (f refl)
-same_test false true f g = g refl
-same_test false false f g = refl
+pub same_counts : (m n : Counts) → HaveOwners m → HaveOwners n → ((q : Triple) → count_of m q ≡ count_of n q) → m ≡ n
+same_counts = raising.same_counts triple_cmp-total triple_cmp-IsAntisymmetric
 
 not_so : (b : Bool) → not b ≡ true → b ≡ false
 not_so true e = sym e
@@ -36,29 +29,6 @@ not_so false e = refl
 both_pass : (a b : Bool) → a ≡ true → b ≡ true → (a && b) ≡ true
 both_pass true b e f = f
 both_pass false b e f = absurd (true≢false (sym e))
-
-module _ (st : Catalog) (r : Texts) where
-  -- the triples of which keys are those are the triples that they stand for
-  pub same_gone : (old : List Key) (gone : List Triple) → AreKeysOf st r old gone → (t : Triple) → has triple_cmp t gone ≡ has triple_cmp t (triples_at st r old)
-  same_gone old gone h t =
-      let m = triple_at st.pool r in
-      same_test (has triple_cmp t gone) (has triple_cmp t (triples_at st r old))
-      (λ there.
-      let one : (key : Key) × HasKey st r key t × (has key_cmp key old ≡ true) = h.all t there in
-      subst (λ (u : Triple). has triple_cmp u (triples_at st r old) ≡ true) (tells st.pool r one.0 t one.1.has) (has-triples_at m old one.0 one.2))
-      (λ there.
-      let one : (key : Key) × (has key_cmp key old ≡ true) × (m key ≡ t) = triples_at-has m old t there in
-      let its : (u : Triple) × HasKey st r one.0 u × (has triple_cmp u gone ≡ true) = h.each one.0 one.1 in
-      subst (λ (u : Triple). has triple_cmp u gone ≡ true) (sym (tells st.pool r one.0 its.0 its.1.has) ∙ one.2) its.2)
-
-  all_gone : (old : List Key) → difference key_cmp old [] ≡ old
-  all_gone old = filter_all (λ x. not (has key_cmp x [])) old (λ x. refl)
-
-  -- where all keys of an owner went
-  pub released : (new : Catalog) (u : Texts) (old : List Key) → Removes st r new u (difference key_cmp old []) → (gone : List Triple) → AreKeysOf st r old gone → Exchanges (counts_in st r) (counts_in new u) gone []
-  released new u old h gone keys = record {
-    counts = λ t. omega (arith, h.counts t, ap one_if (same_gone old gone keys t ∙ ap (λ ks. has triple_cmp t (triples_at st r ks)) (sym (all_gone old))));
-  }
 
 -- which triples keys stand for, of which those of others are left out
 module _ (st : Catalog) (r : Texts) (stored : IsStored st r) where
@@ -80,10 +50,6 @@ module _ (st : Catalog) (r : Texts) (stored : IsStored st r) where
       let apart_ : has key_cmp one.0 ys ≡ false = never (has key_cmp one.0 ys) (λ e. clash (subst (λ (u : Triple). has triple_cmp u (triples_at st r ys) ≡ true) one.2 (has-triples_at m ys one.0 e)) out) in
       subst (λ (u : Triple). has triple_cmp u (triples_at st r (difference key_cmp xs ys)) ≡ true) one.2
       (has-triples_at m (difference key_cmp xs ys) one.0 (has-difference key_cmp-total one.0 xs ys ∙ both_pass _ _ (ap not apart_) one.1)))
-
-pub mapped_alike : (f g : Key → Triple) (keys : List Key) → ((k : Key) → has key_cmp k keys ≡ true → f k ≡ g k) → mapped f keys ≡ mapped g keys
-mapped_alike f g [] h = refl
-mapped_alike f g (k ∷ keys) h = ap (λ t. t ∷ mapped f keys) (h k (has_itself key_cmp-total k keys)) ∙ ap (λ ts. g k ∷ ts) (mapped_alike f g keys (λ x there. h x (or_true _ _ there)))
 
 -- one owner less of what is gone alone, after one more of what came alone
 balanced : (old now new : ℕ) (came gone out : Bool) → out ≡ (not came && gone) → now ≡ old + one_if (came && not gone) → new + one_if out ≡ now → new + one_if gone ≡ old + one_if came

@@ -3,28 +3,19 @@ use Rattle.std.proofs.Common.{◌≡◌, ℕ, ◌≤◌, ◌⊎◌, inl, inr, Bo
 use Rattle.std.specs.Prelude.{slice_index_or}
 use Rattle.std.specs.FinMap as map
 use Rattle.sorted_sets.specs.Rising.{has}
-use Rattle.rdf_term.specs.declared.term.Term.{Term}
-use Rattle.rdf_term.specs.declared.triple.Triple.{Triple}
-use Rattle.rdf_term.specs.Order.{term_cmp, triple_cmp}
-use Rattle.rdf_term.specs.Text.{term_text}
+use Rattle.rdf_term.specs.{declared.term.Term.Term, declared.triple.Triple.Triple, Order.term_cmp, Order.triple_cmp, Text.term_text}
 use Rattle.rdf_term.specs.Undo.{undo}
 use Rattle.rdf_term.proofs.Texts.{undo-term_text}
-use Rattle.text_region.specs.declared.piece.Piece.{Piece}
-use Rattle.text_region.specs.Region.{bytes_of}
-use Rattle.term_pool.specs.declared.slots.Entry.{Entry}
-use Rattle.term_pool.specs.Pool.{IsCanonical, owns, text_in_slot, live_text}
+use Rattle.text_region.specs.{declared.piece.Piece.Piece, Region.bytes_of}
+use Rattle.term_pool.specs.{declared.slots.Entry.Entry, Pool.IsCanonical, Pool.owns, Pool.text_in_slot, Pool.live_text}
 use Rattle.term_pool.proofs.Beside.{beside_is, live_beside}
 use Rattle.term_pool.proofs.OthersTexts.{Owner, of_owned, owned as mine_there, owner}
 use Rattle.term_pool.proofs.Lying.{stands, text_there}
 use Rattle.slot_keys.specs.declared.key.Key.{Key}
-use Rattle.triple_store.specs.Counts.{HaveOwners}
-use Rattle.triple_store.specs.Interning.{HasTermsOf}
-use Rattle.triple_store.specs.Room.{room_for, terms_of}
+use Rattle.triple_catalog.specs.{Counts.HaveOwners, Interning.HasTermsOf, Room.room_for, Room.terms_of}
 use Rattle.triple_store.specs.StoreState.{AreLaid, HasKey, IsSound, StoreState, beside, counts_in, limit_of, terms_in}
-use Rattle.triple_store.proofs.Rooming.{terms_among}
-use Rattle.triple_store.proofs.Standing.{key_stored, owned}
+use Rattle.triple_catalog.proofs.{Rooming.terms_among, Standing.key_stored, Standing.owned, Storing.canonical_back, Storing.terms_stored}
 use Rattle.triple_store.proofs.Stocked.{in_slot, term_of, terms_counted}
-use Rattle.triple_store.proofs.Storing.{canonical_back, terms_stored}
 
 abbrev term_read : Option (List ℕ) → Option Term
 term_read None = None

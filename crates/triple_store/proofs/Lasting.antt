@@ -1,16 +1,13 @@
 -- How many times each triple of an owner comes is known on while others exchange theirs.
 use Rattle.std.proofs.Common.{◌≡◌, ℕ, ◌<◌, true, List, [], get_or, sym, ◌∙◌, ap, arith}
 use Rattle.sorted_sets.specs.Rising.{has}
-use Rattle.rdf_term.specs.declared.triple.Triple.{Triple}
-use Rattle.rdf_term.specs.Order.{triple_cmp}
-use Rattle.slot_keys.specs.declared.key.Key.{Key}
-use Rattle.slot_keys.specs.Keys.{key_cmp, key_cmp-total}
+use Rattle.rdf_term.specs.{declared.triple.Triple.Triple, Order.triple_cmp}
+use Rattle.slot_keys.specs.{declared.key.Key.Key, Keys.key_cmp, Keys.key_cmp-total}
 use Rattle.slot_keys.proofs.Lists.{has_at}
-use Rattle.triple_store.specs.Counts.{count_of}
+use Rattle.triple_catalog.specs.{Counts.count_of, Slots.triple_at}
 use Rattle.triple_store.specs.Updates.{AreTimesIfKnown, AreTimesOf, times}
-use Rattle.triple_store.specs.Slots.{triple_at}
 use Rattle.triple_store.specs.StoreState.{AreKeysOf, HasKey, KeepsKeys, StoreState, counts_in}
-use Rattle.triple_store.proofs.Live.{tells}
+use Rattle.triple_catalog.proofs.Live.{tells}
 
 -- the keys of triples that are still stored are theirs
 pub keys_last : (s s2 : StoreState) (keys : List Key) (ts : List Triple) → AreKeysOf s keys ts → KeepsKeys s s2 → ((t : Triple) → has triple_cmp t ts ≡ true → 0 < count_of (counts_in s2) t) → AreKeysOf s2 keys ts

@@ -2,12 +2,8 @@
 use Rattle.std.proofs.Common.{◌≡◌, ℕ, ◌+◌, ◌<◌, List, [], ◌∷◌, ◌++◌, length, take, get_or, flat_map, Option, append-nil, sym, ◌∙◌, ap, subst}
 use Rattle.std.specs.Prelude.{IfSome}
 use Rattle.std.specs.List.{slice_get}
-use Rattle.std.proofs.lemmas.List.{take_more}
-use Rattle.std.proofs.lemmas.List.Concat.{flat_map-append}
-use Rattle.std.proofs.lemmas.Option.{slice_get-get_or}
-use Rattle.rdf_term.specs.declared.term.Term.TheVariants.{Blank}
-use Rattle.rdf_term.specs.declared.triple.Triple.{Triple}
-use Rattle.rdf_term.specs.Text.{triple_text}
+use Rattle.std.proofs.{lemmas.List.take_more, lemmas.List.Concat.flat_map-append, lemmas.Option.slice_get-get_or}
+use Rattle.rdf_term.specs.{declared.term.Term.TheVariants.Blank, declared.triple.Triple.Triple, Text.triple_text}
 
 pub next_line : (rows : List Triple) (index : ℕ) (text front : List ℕ) → index < length rows → IfSome (slice_get rows index) (λ t. text ≡ front ++ triple_text t) → front ≡ []
     → flat_map triple_text (take (index + 1) rows) ≡ flat_map triple_text (take index rows) ++ text

@@ -1,33 +1,22 @@
 -- A list in which each triple comes at most as many times as in another is no longer.
 use Rattle.std.proofs.Common.{◌≡◌, ℕ, ◌+◌, ◌<◌, ◌≤◌, Bool, true, false, ◌||◌, cond, nat_lt, List, [], ◌∷◌, ◌++◌, length, get_or, is_eq, refl, sym, ◌∙◌, ap, subst, arith, true≢false}
 use Rattle.std.specs.Ordering.{eq_by_cmp}
-use Rattle.std.proofs.lemmas.List.{length-append, length-map}
-use Rattle.std.proofs.lemmas.List.Sums.{sum_by-append}
+use Rattle.std.proofs.{lemmas.List.length-append, lemmas.List.length-map, lemmas.List.Sums.sum_by-append}
 use Rattle.sorted_sets.specs.Rising.{Above, IsRising, has}
-use Rattle.sorted_sets.proofs.Bools.{equal, or_false, or_true}
-use Rattle.sorted_sets.proofs.Rising.{has_itself}
-use Rattle.rdf_term.specs.declared.triple.Triple.{Triple}
-use Rattle.rdf_term.specs.Order.{triple_cmp, triple_cmp-total}
+use Rattle.sorted_sets.proofs.{Bools.equal, Bools.or_false, Bools.or_true, Rising.has_itself}
+use Rattle.rdf_term.specs.{declared.triple.Triple.Triple, Order.triple_cmp, Order.triple_cmp-total}
 use Rattle.rdf_term.proofs.Texts.{triple_cmp-IsAntisymmetric}
 use Rattle.text_region.specs.Region.{Texts}
 use Rattle.term_pool.specs.Pool.{one_if}
-use Rattle.slot_keys.specs.declared.key.Key.{Key}
-use Rattle.slot_keys.specs.KeyCounts.{counted_keys}
-use Rattle.slot_keys.specs.Keys.{key_cmp, key_cmp-total}
+use Rattle.slot_keys.specs.{declared.key.Key.Key, KeyCounts.counted_keys, Keys.key_cmp, Keys.key_cmp-total}
 use Rattle.slot_keys.proofs.Lists.{never}
-use Rattle.triple_store.specs.declared.catalog.Catalog.{Catalog}
-use Rattle.triple_store.specs.declared.telling.Telling.{Telling}
-use Rattle.triple_store.specs.Costs.{Costs}
-use Rattle.triple_store.specs.Moves.{triples_at}
-use Rattle.triple_store.specs.Slots.{triple_at}
-use Rattle.triple_store.specs.Stored.{HasKey, IsStored, is_key}
-use Rattle.triple_store.specs.Telling.{if_told}
-use Rattle.triple_store.specs.Times.{ComesTo, times}
+use Rattle.triple_catalog.specs.{declared.catalog.Catalog.Catalog, Costs.Costs, Moves.triples_at, Slots.triple_at}
+use Rattle.triple_catalog.specs.Stored.{HasKey, IsStored, is_key}
+use Rattle.triple_store.specs.{declared.telling.Telling.Telling, Telling.if_told, Times.ComesTo, Times.times}
 use Rattle.triple_store.proofs.Afterwards.{stays_among}
 use Rattle.triple_store.proofs.Becoming.{at_least, counted-has, none_times, some_times, times-cons, times_some}
-use Rattle.triple_store.proofs.Costs.{at_most, told_fewer}
-use Rattle.triple_store.proofs.Live.{key_same}
-use Rattle.triple_store.proofs.Standing.{stored_key, triples_at-has}
+use Rattle.triple_store.proofs.Costs.{told_fewer}
+use Rattle.triple_catalog.proofs.{Costs.at_most, Costs.both, Live.key_same, Standing.stored_key, Standing.triples_at-has}
 
 -- the list without the triple where it comes first
 abbrev without : Triple → List Triple → List Triple
@@ -137,11 +126,18 @@ module _ (st : Catalog) (r : Texts) (stored : IsStored st r) where
       length-map some (triple_at st.pool r),
     )
 
--- so the exchange costs no more than one of all that the owner has then
-pub cost_of_all : (telling : Telling) (n m come stay had all before after : ℕ) → stay + come ≤ all → Costs n m come (if_told telling (come + (stay + had)) + (come + (stay + had))) before after → Costs n m all (if_told telling (all + had) + (all + had)) before after
-cost_of_all telling n m come stay had all before after few h =
-    at_most n m come all (if_told telling (come + (stay + had)) + (come + (stay + had))) (if_told telling (all + had) + (all + had)) before after (omega (arith, few))
-    (omega (arith, few, told_fewer telling (come + (stay + had)) (all + had) (omega (arith, few)))) h
+-- so the exchange costs no more than one of all that the owner has then: where what came was taken back
+pub cost_undone : (telling : Telling) (n m k come stay had all gone before mid after : ℕ) → stay + come ≤ all → gone ≤ come → Costs n m come 0 before mid → Costs m k 0 gone mid after → Costs n k all (if_told telling (all + had) + (all + had)) before after
+cost_undone telling n m k come stay had all gone before mid after few less f g =
+    at_most n k (come + 0) all (0 + gone) (if_told telling (all + had) + (all + had)) before after (omega (arith, few)) (omega (arith, few, less)) (both n m k come 0 0 gone before mid after f g)
+
+-- and where it was told
+pub cost_told : (telling : Telling) (n m k come stay had all these gone before mid then after : ℕ) → stay + come ≤ all → these ≤ come + stay → gone ≤ all + had
+    → Costs n m come 0 before mid → Costs m m 0 (if_told telling (these + had)) mid then → Costs m k 0 gone then after → Costs n k all (if_told telling (all + had) + (all + had)) before after
+cost_told telling n m k come stay had all these gone before mid then after few short less f g h =
+    let told = if_told telling (these + had) in
+    at_most n k (come + (0 + 0)) all (0 + (told + gone)) (if_told telling (all + had) + (all + had)) before after (omega (arith, few)) (omega (arith, less, told_fewer telling (these + had) (all + had) (omega (arith, few, short))))
+    (both n m k come (0 + 0) 0 (told + gone) before mid after f (both m m k 0 0 told gone mid then after g h))
 
 -- nor does one for which nothing is left and nothing comes
 pub cost_for_none : (telling : Telling) (n m had all before after : ℕ) → Costs n m 0 (if_told telling had + had) before after → Costs n m all (if_told telling (all + had) + (all + had)) before after

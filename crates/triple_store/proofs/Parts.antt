@@ -1,63 +1,25 @@
 -- The keys of parts together, and an exchange in which those of some parts stay.
-use Rattle.std.proofs.Common.{◌≡◌, ℕ, ◌+◌, ◌<◌, Bool, true, false, not, ◌&&◌, ◌||◌, ⊎_elim, List, [], ◌++◌, length, refl, sym, ◌∙◌, ap, subst, true≢false}
+use Rattle.std.proofs.Common.{◌≡◌, ℕ, ◌+◌, Bool, true, false, not, ◌&&◌, ◌||◌, ⊎_elim, List, [], ◌++◌, length, refl, sym, ◌∙◌, ap, subst, true≢false}
 use Rattle.std.specs.List.{flat_map}
 use Rattle.std.specs.FinMap as map
-use Rattle.sorted_sets.specs.Rising.{has, sorted}
-use Rattle.sorted_sets.proofs.Bools.{and_none, or_true}
-use Rattle.sorted_sets.proofs.Rising.{IsRising-sorted, has-append, has-sorted, sorted_same}
-use Rattle.rdf_term.specs.declared.triple.Triple.{Triple}
-use Rattle.rdf_term.specs.declared.term.Term.{Term}
-use Rattle.rdf_term.specs.Order.{term_cmp, term_cmp-total, triple_cmp}
+use Rattle.sorted_sets.specs.Rising.{has}
+use Rattle.sorted_sets.proofs.{Bools.and_none, Bools.or_true, Rising.has-append, Rising.sorted_same}
+use Rattle.rdf_term.specs.{declared.triple.Triple.Triple, declared.term.Term.Term, Order.term_cmp, Order.term_cmp-total, Order.triple_cmp}
 use Rattle.rdf_term.proofs.Texts.{term_cmp-IsAntisymmetric}
 use Rattle.text_region.specs.Region.{Texts}
 use Rattle.term_pool.specs.Pool.{one_if}
-use Rattle.slot_keys.specs.declared.key.Key.{Key}
-use Rattle.slot_keys.specs.Keys.{key_cmp, key_cmp-total}
+use Rattle.slot_keys.specs.{declared.key.Key.Key, Keys.key_cmp}
 use Rattle.slot_keys.proofs.Lists.{one_of, or_left}
-use Rattle.triple_store.specs.declared.catalog.Catalog.{Catalog}
-use Rattle.triple_store.specs.Counts.{count_of}
-use Rattle.triple_store.specs.Room.{room_for, terms_of}
-use Rattle.triple_store.specs.Slots.{triple_at}
-use Rattle.triple_store.specs.Stored.{AreKeysOf, HasKey, IsStored, KeepsKeys, counts_in, is_key}
-use Rattle.triple_store.specs.Moves.{TakesIn, triples_at}
+use Rattle.triple_catalog.specs.{declared.catalog.Catalog.Catalog, Counts.count_of, Room.room_for, Room.terms_of, Slots.triple_at}
+use Rattle.triple_catalog.specs.{Stored.HasKey, Stored.IsStored, Stored.counts_in, Stored.is_key, Moves.TakesIn, Moves.triples_at}
 use Rattle.triple_store.specs.Parts.{StandFor}
-use Rattle.triple_store.proofs.Exchanged.{same_test}
-use Rattle.triple_store.proofs.Live.{tells}
-use Rattle.triple_store.proofs.Rooming.{terms_among}
-use Rattle.triple_store.proofs.Standing.{counted_key, has-triples_at, triples_at-has, stored_if, stored_key}
+use Rattle.triple_catalog.proofs.{Exchanged.same_test, Live.tells, Rooming.terms_among}
+use Rattle.triple_catalog.proofs.Standing.{counted_key, has-triples_at, triples_at-has, stored_if, stored_key}
 use Rattle.triple_store.proofs.Stocked.{term_of}
 
 -- nothing
 pub stand_nothing : (st : Catalog) (r : Texts) → StandFor st r [] []
 stand_nothing st r = record { each = λ key h. absurd (true≢false (sym h)); all = λ t h. absurd (true≢false (sym h)) }
-
--- two parts together
-pub stand_both : (st : Catalog) (r : Texts) (xs ys : List Key) (ts us : List Triple) → StandFor st r xs ts → StandFor st r ys us → StandFor st r (xs ++ ys) (ts ++ us)
-stand_both st r xs ys ts us a b = record {
-  each = λ key there. ⊎_elim
-      (λ front. let one : (t : Triple) × HasKey st r key t × (has triple_cmp t ts ≡ true) = a.each key front in (one.0, one.1, has-append triple_cmp one.0 ts us ∙ or_left _ _ one.2))
-      (λ back. let one : (t : Triple) × HasKey st r key t × (has triple_cmp t us ≡ true) = b.each key back in (one.0, one.1, has-append triple_cmp one.0 ts us ∙ or_true (has triple_cmp one.0 ts) _ one.2))
-      (one_of (has key_cmp key xs) (has key_cmp key ys) (sym (has-append key_cmp key xs ys) ∙ there));
-  all = λ t there. ⊎_elim
-      (λ front. let one : (key : Key) × HasKey st r key t × (has key_cmp key xs ≡ true) = a.all t front in (one.0, one.1, has-append key_cmp one.0 xs ys ∙ or_left _ _ one.2))
-      (λ back. let one : (key : Key) × HasKey st r key t × (has key_cmp key ys ≡ true) = b.all t back in (one.0, one.1, has-append key_cmp one.0 xs ys ∙ or_true (has key_cmp one.0 xs) _ one.2))
-      (one_of (has triple_cmp t ts) (has triple_cmp t us) (sym (has-append triple_cmp t ts us) ∙ there));
-}
-
--- in order, they are the keys
-pub stand_in_order : (st : Catalog) (r : Texts) (keys : List Key) (ts : List Triple) → StandFor st r keys ts → AreKeysOf st r (sorted key_cmp keys) ts
-stand_in_order st r keys ts h = record {
-  rising = IsRising-sorted key_cmp-total keys;
-  each = λ key there. h.each key (sym (has-sorted key_cmp-total key keys) ∙ there);
-  all = λ t there. let one : (key : Key) × HasKey st r key t × (has key_cmp key keys ≡ true) = h.all t there in (one.0, one.1, has-sorted key_cmp-total one.0 keys ∙ one.2);
-}
-
--- the keys stand for the same where their triples are still stored
-pub stand_later : (st : Catalog) (r : Texts) (new : Catalog) (u : Texts) (keys : List Key) (ts : List Triple) → KeepsKeys st r new u → ((t : Triple) → has triple_cmp t ts ≡ true → 0 < count_of (counts_in new u) t) → StandFor st r keys ts → StandFor new u keys ts
-stand_later st r new u keys ts keeps some h = record {
-  each = λ key there. let one : (t : Triple) × HasKey st r key t × (has triple_cmp t ts ≡ true) = h.each key there in (one.0, keeps.kept key one.0 one.1 (some one.0 one.2), one.2);
-  all = λ t there. let one : (key : Key) × HasKey st r key t × (has key_cmp key keys ≡ true) = h.all t there in (one.0, keeps.kept one.0 t one.1 (some t there), one.2);
-}
 
 -- a triple that the owner had gets no owner more
 had_stays : (old now : ℕ) (came had done more : Bool) → more ≡ (done || came) → (done ≡ true → had ≡ true) → now ≡ old + one_if (came && not had) → now ≡ old + one_if (more && not had)

@@ -1,38 +1,24 @@
 -- The terms of the stored triples are those in the slots.
 use Rattle.std.proofs.Common.{◌≡◌, ℕ, zero, suc, ◌+◌, ◌<◌, ◌≤◌, true, false, ◌||◌, cond, ⊎_elim, List, [], ◌∷◌, ◌++◌, length, get_or, Option, Some, None, is_some, count_by, Ordering, Less, Equal, Greater, is_eq, refl, sym, ◌∙◌, ap, subst, arith, true≢false}
-use Rattle.std.specs.BTreeSet.{insert_key}
+use Rattle.std.specs.{BTreeSet.insert_key, List.flat_map, Ordering.eq_by_cmp, Ordering.match_ordering}
 use Rattle.std.specs.FinMap as map
-use Rattle.std.specs.List.{flat_map}
-use Rattle.std.specs.Ordering.{eq_by_cmp, match_ordering}
-use Rattle.std.proofs.lemmas.Bool.{cases_eq}
-use Rattle.std.proofs.lemmas.Cmp.{tied_itself}
-use Rattle.std.proofs.lemmas.List.Sums.{sum_by-cons}
+use Rattle.std.proofs.{lemmas.Bool.cases_eq, lemmas.Cmp.tied_itself, lemmas.List.Sums.sum_by-cons}
 use Rattle.sorted_sets.specs.Rising.{has, sorted}
-use Rattle.sorted_sets.proofs.Bools.{equal, or_none, or_true}
-use Rattle.sorted_sets.proofs.Rising.{has-append, has_itself}
-use Rattle.rdf_term.specs.declared.term.Term.{Term}
-use Rattle.rdf_term.specs.declared.triple.Triple.{Triple}
-use Rattle.rdf_term.specs.Order.{term_cmp, term_cmp-total, triple_cmp, triple_cmp-total}
-use Rattle.rdf_term.specs.Text.{term_text}
-use Rattle.rdf_term.specs.Undo.{undo}
+use Rattle.sorted_sets.proofs.{Bools.equal, Bools.or_none, Bools.or_true, Rising.has-append, Rising.has_itself}
+use Rattle.rdf_term.specs.{declared.term.Term.Term, declared.triple.Triple.Triple}
+use Rattle.rdf_term.specs.{Order.term_cmp, Order.term_cmp-total, Order.triple_cmp, Order.triple_cmp-total, Text.term_text, Undo.undo}
 use Rattle.rdf_term.proofs.Texts.{term_cmp-IsAntisymmetric, undo-term_text}
 use Rattle.text_region.specs.Region.{Texts, bytes_of}
-use Rattle.term_pool.specs.declared.slots.Entry.{Entry}
-use Rattle.term_pool.specs.declared.pool.Pool.{Pool}
-use Rattle.term_pool.specs.Pool.{terms, text_in_slot, live_text}
+use Rattle.term_pool.specs.{declared.slots.Entry.Entry, declared.pool.Pool.Pool, Pool.terms, Pool.text_in_slot, Pool.live_text}
 use Rattle.term_pool.proofs.Lying.{if_other, used_at}
-use Rattle.slot_keys.specs.declared.key.Key.{Key}
-use Rattle.slot_keys.specs.Keys.{key_cmp, key_cmp-total, same_key}
+use Rattle.slot_keys.specs.{declared.key.Key.Key, Keys.key_cmp, Keys.key_cmp-total, Keys.same_key}
 use Rattle.slot_keys.proofs.Lists.{one_of, or_left}
-use Rattle.triple_store.specs.declared.catalog.Catalog.{Catalog}
-use Rattle.triple_store.specs.Interning.{HasTermsOf}
-use Rattle.triple_store.specs.Moves.{TakesIn}
-use Rattle.triple_store.specs.Room.{distinct, room_for, terms_of}
-use Rattle.triple_store.specs.Slots.{HasTriple, term_in, triple_at, used, uses}
-use Rattle.triple_store.specs.Stored.{HasKey, IsStored, counts_in, limit_of}
-use Rattle.triple_store.proofs.Distinct.{as_many, fewer}
-use Rattle.triple_store.proofs.Rooming.{positive_sum, terms_among}
-use Rattle.triple_store.proofs.Standing.{contains-image, has-triples_at, key_stored, stored_key}
+use Rattle.triple_catalog.specs.{declared.catalog.Catalog.Catalog, Interning.HasTermsOf, Moves.TakesIn}
+use Rattle.triple_catalog.specs.Room.{distinct, room_for, terms_of}
+use Rattle.triple_catalog.specs.Slots.{HasTriple, term_in, triple_at, used, uses}
+use Rattle.triple_catalog.specs.Stored.{HasKey, IsStored, counts_in, limit_of}
+use Rattle.triple_catalog.proofs.{Distinct.as_many, Distinct.fewer, Rooming.positive_sum, Rooming.terms_among}
+use Rattle.triple_catalog.proofs.Standing.{contains-image, has-triples_at, key_stored, stored_key}
 
 module _ {K : Type 0} (R : K → K → Ordering) where
   length-insert : (k : K) (xs : List K) → length (insert_key R xs k) ≤ length xs + 1

@@ -1,30 +1,29 @@
 -- How many times triples come, one triple after another.
-use Rattle.std.proofs.Common.{◌≡◌, ◌≢◌, ℕ, ◌+◌, ◌<◌, Bool, true, false, cond, List, [], ◌∷◌, ◌++◌, length, take, get_or, is_eq, ⊎_elim, refl, sym, ◌∙◌, ap, subst, arith}
+use Rattle.std.proofs.Common.{◌≡◌, ◌≢◌, ℕ, zero, suc, ◌+◌, ◌<◌, ◌≤◌, true, false, cond, List, [], ◌∷◌, ◌++◌, length, take, get_or, is_eq, ⊎_elim, sym, ◌∙◌, ap, subst, arith}
 use Rattle.std.specs.Prelude.{IfSome, slice_get, set}
 use Rattle.std.specs.Ordering.{eq_by_cmp}
-use Rattle.std.proofs.lemmas.List.{get_or-set_other, get_or-set_same, length-set}
-use Rattle.std.proofs.lemmas.List.Sums.{sum_by_push}
-use Rattle.std.proofs.lemmas.Bool.{cases_eq}
-use Rattle.std.proofs.lemmas.Cmp.{tied_itself}
+use Rattle.std.proofs.{lemmas.List.get_or-set_other, lemmas.List.get_or-set_same, lemmas.List.length-set, lemmas.List.Sums.sum_by_push}
+use Rattle.std.proofs.{lemmas.Bool.cases_eq, lemmas.Cmp.tied_itself}
 use Rattle.sorted_sets.specs.Rising.{IsRising, has}
 use Rattle.sorted_sets.proofs.Bools.{equal}
-use Rattle.rdf_term.specs.declared.triple.Triple.{Triple}
-use Rattle.rdf_term.specs.Order.{triple_cmp, triple_cmp-total}
+use Rattle.rdf_term.specs.{declared.triple.Triple.Triple, Order.triple_cmp, Order.triple_cmp-total}
 use Rattle.rdf_term.proofs.Texts.{triple_cmp-IsAntisymmetric}
-use Rattle.triple_texts.specs.declared.triple_text.TripleText.{TripleText}
-use Rattle.triple_texts.specs.Texts.{IsTextOf}
+use Rattle.triple_texts.specs.{declared.triple_text.TripleText.TripleText, Texts.IsTextOf}
 use Rattle.text_region.specs.Region.{Texts}
 use Rattle.term_pool.specs.Pool.{one_if}
-use Rattle.slot_keys.specs.declared.key.Key.{Key}
-use Rattle.slot_keys.specs.Keys.{key_cmp, key_cmp-total}
-use Rattle.slot_keys.proofs.Lists.{has_at, other_at}
-use Rattle.triple_store.specs.declared.catalog.Catalog.{Catalog}
-use Rattle.triple_store.specs.Slots.{HasTexts, HasTriple, triple_of}
-use Rattle.triple_store.specs.Stored.{IsStored, is_key}
-use Rattle.triple_store.specs.Times.{AddTimes, times, triple_of_key}
-use Rattle.triple_store.proofs.Listed.{row}
-use Rattle.triple_store.proofs.Live.{key_same, tells}
-use Rattle.triple_store.proofs.Standing.{stored_key, texts_triple}
+use Rattle.slot_keys.specs.{declared.key.Key.Key, Keys.key_cmp, Keys.key_cmp-total}
+use Rattle.slot_keys.proofs.Lists.{has_at, never, other_at}
+use Rattle.triple_catalog.specs.{declared.catalog.Catalog.Catalog, Slots.HasTexts, Slots.HasTriple, Slots.triple_of}
+use Rattle.triple_catalog.specs.Stored.{HasKey, IsStored, is_key}
+use Rattle.triple_store.specs.Times.{AddTimes, AreTimesOf, Exceeds, times, triple_of_key}
+use Rattle.triple_store.proofs.Becoming.{none_times, some_times, times-cons}
+use Rattle.triple_catalog.proofs.{Listed.row, Live.key_same, Live.tells, Standing.stored_key, Standing.texts_triple, Standing.triple_texts}
+
+-- the first triples of a list hold a triple no more often than all do
+times-take : (t : Triple) (n : ℕ) (ts : List Triple) → times t (take n ts) ≤ times t ts
+times-take t zero ts = omega arith
+times-take t (suc n) [] = omega arith
+times-take t (suc n) (u ∷ ts) = omega (arith, times-cons t u (take n ts), times-cons t u ts, times-take t n ts)
 
 -- one triple more
 times-push : (t u : Triple) (ts : List Triple) → times t (ts ++ u ∷ []) ≡ times t ts + cond (eq_by_cmp triple_cmp t u) 1 0
@@ -50,10 +49,6 @@ module _ (st : Catalog) (r : Texts) (stored : IsStored st r) (keys : List Key) (
       other_at key_cmp-total keys index place other rises within there differ
       (key_same st.pool r (get_or keys index other) (get_or keys place other) (triple_of texts) stored.lies
       (subst (HasTriple st.pool r (get_or keys index other)) same (stored_at index other within)) (has_t other)))
-    where
-      never : (b : Bool) → (b ≡ true → ⊥) → b ≡ false
-      never true f = absurd (f refl)
-      never false f = refl
 
   more : (index : ℕ) (other : Key) → times (triple_of_key st r keys index other) (take (i + 1) triples)
       ≡ times (triple_of_key st r keys index other) (take i triples) + cond (eq_by_cmp triple_cmp (triple_of_key st r keys index other) (triple_of texts)) 1 0
@@ -81,6 +76,28 @@ module _ (st : Catalog) (r : Texts) (stored : IsStored st r) (keys : List Key) (
             (cases_eq index place);
       }
 
--- nothing more
-pub times-none : (st : Catalog) (r : Texts) (keys : List Key) (counts : List ℕ) (triples : List Triple) → AddTimes st r keys counts counts (take 0 triples)
-times-none st r keys counts triples = record { as_many = refl; counted = λ index other within. omega arith }
+  -- which may be once too often
+  pub exceeds_at : (old left : List ℕ) (before : List Triple) → get_or left place 0 ≡ 0 → AddTimes st r keys left old (take i triples) → AreTimesOf st r keys old before → Exceeds triples before
+  exceeds_at old left before none h its_times =
+      let other : Key = record { first = 0; second = 0; third = 0 } in
+      let t = triple_of_key st r keys place other in
+      record {
+        triple = t;
+        more = omega (arith, none, h.counted place other there, its_times.counted place other there, more place other, ap one_if (here other), times-take t (i + 1) triples);
+      }
+
+-- a triple that has none of the keys of a list goes more often than it comes among what these stand for
+pub exceeds_other : (st : Catalog) (r : Texts) (keys : List Key) (counts : List ℕ) (before gone : List Triple) (i : ℕ) (texts : TripleText) → i < length gone → IfSome (slice_get gone i) (IsTextOf texts)
+    → ((key : Key) → has key_cmp key keys ≡ true → HasTexts st.pool r key texts → ⊥) → AreTimesOf st r keys counts before → Exceeds gone before
+exceeds_other st r keys counts before gone i texts low at none its_times =
+    let its = row gone i texts low at in
+    record {
+      triple = triple_of texts;
+      more = omega (
+        arith,
+        some_times (triple_of texts) gone its.among,
+        none_times (triple_of texts) before (never (has triple_cmp (triple_of texts) before) (λ is.
+            let one : (key : Key) × HasKey st r key (triple_of texts) × (has key_cmp key keys ≡ true) = its_times.keys_of.all (triple_of texts) is in
+            none one.0 one.2 (triple_texts st.pool r one.0 texts (triple_of texts) its.is one.1.has))),
+      );
+    }

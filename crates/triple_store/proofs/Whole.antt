@@ -2,16 +2,11 @@
 use Rattle.std.proofs.Common.{◌<◌, ◌≤◌, List, []}
 use Rattle.rdf_term.specs.declared.triple.Triple.{Triple}
 use Rattle.slot_keys.specs.declared.key.Key.{Key}
-use Rattle.triple_store.specs.declared.telling.Telling.{Telling}
-use Rattle.triple_store.specs.declared.updates.Exchange.{Exchange}
-use Rattle.triple_store.specs.Counts.{Exchanges}
-use Rattle.triple_store.specs.Moves.{triples_at}
-use Rattle.triple_store.specs.Room.{room_for}
+use Rattle.triple_store.specs.{declared.telling.Telling.Telling, declared.updates.Exchange.Exchange}
 use Rattle.triple_store.specs.StoreState.{AreKeysOf, IsSound, StoreState, counts_in, limit_of}
-use Rattle.triple_store.specs.Telling.{TellsIf}
-use Rattle.triple_store.specs.Updates.{AreStored, AreTimesIfKnown, ComesTo, HasExchanged}
-use Rattle.triple_store.proofs.Becoming.{comes_whole}
-use Rattle.triple_store.proofs.Parts.{stand_themselves}
+use Rattle.triple_store.specs.{Telling.TellsIf, Updates.AreStored, Updates.AreTimesIfKnown, Updates.ComesTo, Updates.HasExchanged}
+use Rattle.triple_catalog.specs.{Counts.Exchanges, Moves.triples_at, Room.room_for}
+use Rattle.triple_store.proofs.{Becoming.comes_whole, Parts.stand_themselves}
 
 -- what is so where nothing is left of the triples that the owner had
 pub record IsWhole (telling : Telling) (old new : StoreState) (keys : List Key) (came : List Triple) (done : Exchange) : Type 0 where

@@ -1,13 +1,10 @@
 -- The keys of a part of what an owner has: one key may stand in two parts.
 use Rattle.std.specs.Prelude.{◌≡◌, true, List}
 use Rattle.sorted_sets.specs.Rising.{has}
-use Rattle.rdf_term.specs.declared.triple.Triple.{Triple}
-use Rattle.rdf_term.specs.Order.{triple_cmp}
+use Rattle.rdf_term.specs.{declared.triple.Triple.Triple, Order.triple_cmp}
 use Rattle.text_region.specs.Region.{Texts}
-use Rattle.slot_keys.specs.declared.key.Key.{Key}
-use Rattle.slot_keys.specs.Keys.{key_cmp}
-use Rattle.triple_store.specs.declared.catalog.Catalog.{Catalog}
-use Rattle.triple_store.specs.Stored.{HasKey}
+use Rattle.slot_keys.specs.{declared.key.Key.Key, Keys.key_cmp}
+use Rattle.triple_catalog.specs.{declared.catalog.Catalog.Catalog, Stored.HasKey}
 
 -- each key stands for one of the triples, and each triple has one of the keys, in whatever order and however often
 pub record StandFor (store : Catalog) (texts : Texts) (keys : List Key) (triples : List Triple) : Type 0 where

@@ -4,18 +4,12 @@ use Rattle.std.specs.Coded.{Coded, code_by, coded×}
 use Rattle.std.specs.FinMap as map
 use Rattle.std.specs.List.{flat_map}
 use Rattle.sorted_sets.specs.Rising.{has}
-use Rattle.rdf_term.specs.declared.term.Term.{Term}
-use Rattle.rdf_term.specs.declared.triple.Triple.{Triple}
-use Rattle.rdf_term.specs.Order.{term_cmp}
-use Rattle.rdf_term.specs.Text.{term_text}
-use Rattle.text_region.specs.declared.piece.Piece.{Piece}
-use Rattle.text_region.specs.Region.{Texts, bytes_of, texts_code}
+use Rattle.rdf_term.specs.{declared.term.Term.Term, declared.triple.Triple.Triple, Order.term_cmp, Text.term_text}
+use Rattle.text_region.specs.{declared.piece.Piece.Piece, Region.Texts, Region.bytes_of, Region.texts_code}
 use Rattle.slot_keys.specs.declared.key.Key.{Key}
-use Rattle.triple_store.specs.declared.catalog.Catalog.{Catalog}
-use Rattle.triple_store.specs.contracts.catalog.Catalog as catalog
-use Rattle.triple_store.specs.Counts.{Counts}
-use Rattle.triple_store.specs.Room.{terms_of}
-use Rattle.triple_store.specs.Stored as lent
+use Rattle.triple_catalog.specs.{declared.catalog.Catalog.Catalog, Counts.Counts, Room.terms_of}
+use Rattle.triple_catalog.specs.contracts.catalog.Catalog as catalog
+use Rattle.triple_catalog.specs.Stored as lent
 
 -- the terms and the triples of slots, and the texts of the region: those of the terms, and others beside them
 pub record StoreState : Type 0 where

@@ -1,25 +1,12 @@
 -- What a call changed of the stored triples, told by lines.
-use Rattle.std.specs.Prelude.{◌≡◌, ℕ, ◌==◌, Option, None, Some, List, length, filter}
+use Rattle.std.specs.Prelude.{ℕ, Option, None, Some, List}
 use Rattle.std.specs.FinMap as map
-use Rattle.std.specs.List.{flat_map}
 use Rattle.sorted_sets.specs.Rising.{difference}
-use Rattle.rdf_term.specs.declared.triple.Triple.{Triple}
-use Rattle.rdf_term.specs.Order.{triple_cmp}
-use Rattle.rdf_term.specs.Text.{triple_text}
-use Rattle.slot_keys.specs.declared.key.Key.{Key}
-use Rattle.slot_index.specs.Counts as keyed
-use Rattle.slot_keys.specs.Keys.{key_cmp}
-use Rattle.triple_store.specs.declared.catalog.Catalog.{Catalog}
-use Rattle.triple_store.specs.declared.telling.Change.{Change}
-use Rattle.triple_store.specs.declared.telling.Telling.{Telling}
+use Rattle.rdf_term.specs.{declared.triple.Triple.Triple, Order.triple_cmp}
+use Rattle.triple_catalog.specs.Counts.{Counts}
+pub use Rattle.triple_catalog.specs.Lines.{AreLinesOf}
+use Rattle.triple_store.specs.{declared.telling.Change.Change, declared.telling.Telling.Telling}
 use Rattle.triple_store.specs.declared.telling.Telling.TheVariants.{Nothing, Change as TheChange}
-use Rattle.triple_store.specs.declared.telling.TripleLines.{TripleLines}
-use Rattle.triple_store.specs.Counts.{Counts}
-
--- the lines of the triples, and how many they are
-pub record AreLinesOf (lines : TripleLines) (triples : List Triple) : Type 0 where
-  pub count : lines.count ≡ length triples
-  pub text : lines.text.items ≡ flat_map triple_text triples
 
 -- the triples that are stored after and weren't before, and those that were stored before and aren't after, in order
 pub record IsChange (old new : Counts) (change : Change) : Type 0 where
@@ -44,7 +31,3 @@ LinesIf TheChange came gone (Some change) = AreLinesOf change.came came × AreLi
 abbrev pub if_told : Telling → ℕ → ℕ
 if_told Nothing n = 0
 if_told TheChange n = n
-
--- the keys with one owner, but for those that are among others
-abbrev pub sole : Catalog → List Key → List Key → List Key
-sole store keys others = filter (λ key. keyed.count_of store.index key == 1) (difference key_cmp keys others)

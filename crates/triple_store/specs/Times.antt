@@ -2,13 +2,10 @@
 use Rattle.std.specs.Prelude.{◌≡◌, ◌+◌, ◌<◌, ◌≤◌, false, ℕ, List, length, get_or, count_by}
 use Rattle.std.specs.Ordering.{eq_by_cmp}
 use Rattle.sorted_sets.specs.Rising.{has}
-use Rattle.rdf_term.specs.declared.triple.Triple.{Triple}
-use Rattle.rdf_term.specs.Order.{triple_cmp}
+use Rattle.rdf_term.specs.{declared.triple.Triple.Triple, Order.triple_cmp}
 use Rattle.text_region.specs.Region.{Texts}
 use Rattle.slot_keys.specs.declared.key.Key.{Key}
-use Rattle.triple_store.specs.declared.catalog.Catalog.{Catalog}
-use Rattle.triple_store.specs.Slots.{triple_at}
-use Rattle.triple_store.specs.Stored.{AreKeysOf}
+use Rattle.triple_catalog.specs.{declared.catalog.Catalog.Catalog, Slots.triple_at, Stored.AreKeysOf}
 
 -- how many times a triple stands in a list
 abbrev pub times : Triple → List Triple → ℕ
@@ -39,3 +36,8 @@ pub record ComesTo (store : Catalog) (texts : Texts) (keys : List Key) (left : L
   pub keys_of : AreKeysOf store texts keys before
   pub counted : (index : ℕ) (other : Key) → index < length keys → times (triple_of_key store texts keys index other) after ≡ get_or left index 0 + times (triple_of_key store texts keys index other) come
   pub others : (t : Triple) → has triple_cmp t before ≡ false → times t after ≡ times t come
+
+-- one of the triples goes more often than it comes in a list
+pub record Exceeds (gone before : List Triple) : Type 0 where
+  pub triple : Triple
+  pub more : times triple before < times triple gone

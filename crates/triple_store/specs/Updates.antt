@@ -3,24 +3,17 @@ use Rattle.std.specs.Prelude.{◌≡◌, ℕ, ◌<◌, ◌≤◌, true, List, []
 use Rattle.std.specs.List.{AllByRecursion}
 use Rattle.sorted_sets.specs.Rising.{IsRising, has}
 use Rattle.base.specs.declared.memory.OutOfMemory.{OutOfMemory}
-use Rattle.rdf_term.specs.declared.triple.Triple.{Triple}
-use Rattle.rdf_term.specs.Fit.{HasFitAndShortTerms}
-use Rattle.rdf_term.specs.Order.{triple_cmp}
+use Rattle.rdf_term.specs.{declared.triple.Triple.Triple, Fit.HasFitAndShortTerms, Order.triple_cmp}
 use Rattle.text_region.specs.declared.piece.Piece.{Piece}
-use Rattle.term_pool.specs.declared.fault.PoolFault.{PoolFault}
-use Rattle.term_pool.specs.declared.fault.PoolFault.TheVariants.{Full}
-use Rattle.slot_keys.specs.declared.key.Key.{Key}
-use Rattle.slot_keys.specs.Keys.{key_cmp}
-use Rattle.triple_store.specs.declared.telling.Change.{Change}
-use Rattle.triple_store.specs.declared.telling.Telling.{Telling}
-use Rattle.triple_store.specs.declared.telling.Telling.TheVariants.{Nothing}
-use Rattle.triple_store.specs.declared.updates.Exchange.{Exchange}
-use Rattle.triple_store.specs.Counts.{Exchanges, count_of}
-use Rattle.triple_store.specs.Room.{room_for}
+use Rattle.term_pool.specs.{declared.fault.PoolFault.PoolFault, declared.fault.PoolFault.TheVariants.Full}
+use Rattle.slot_keys.specs.{declared.key.Key.Key, Keys.key_cmp}
+use Rattle.triple_store.specs.{declared.telling.Change.Change, declared.telling.Telling.Telling}
+use Rattle.triple_store.specs.{declared.telling.Telling.TheVariants.Nothing, declared.updates.Exchange.Exchange}
 use Rattle.triple_store.specs.StoreState.{AreKeysOf, IsSound, KeepsKeys, StoreState, beside, counts_in, is_key, limit_of}
 use Rattle.triple_store.specs.Telling.{TellsIf}
+use Rattle.triple_catalog.specs.{Counts.Exchanges, Counts.count_of, Room.room_for}
 use Rattle.triple_store.specs.Times as lent
-pub use Rattle.triple_store.specs.Times.{Becomes, times}
+pub use Rattle.triple_store.specs.Times.{Becomes, Exceeds, times}
 
 -- the triples may come: their terms are fit and short, and no count of owners is saturated
 pub record MayCome (store : StoreState) (triples : List Triple) : Type 0 where

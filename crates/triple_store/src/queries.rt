@@ -6,13 +6,14 @@ ghost use Rattle.std.specs.FinMap as map;
 ghost use Rattle.sorted_sets.specs.Rising.{sorted};
 ghost use Rattle.comparison_steps.specs.Steps.{WithinSteps};
 ghost use Rattle.rdf_term.specs.{declared.triple.Triple.Triple as TheTriple, Order.triple_cmp, Pattern.rows};
-ghost use Rattle.triple_store.specs.{Counts.count_of, StoreState.AreKeysOf, StoreState.counts_in, Updates.AreStored};
+ghost use Rattle.triple_catalog.specs.Counts.{count_of};
+ghost use Rattle.triple_store.specs.{StoreState.AreKeysOf, StoreState.counts_in, Updates.AreStored};
 
-use crate::rows::Rows;
 use crate::store::Store;
 use comparison_steps::{StepCounter, Uncounted};
 use rdf_term::{OutOfMemory, Pattern, Triple, TripleSet};
 use slot_keys::KeySlices;
+use triple_catalog::Rows;
 
 impl Store {
     /// The stored triples in their order. Each of their terms is ranked once, by its text, and the triples are sorted by the ranks of their
@@ -52,7 +53,10 @@ impl Store {
         ensures forward { C.total steps.old ≤ C.total steps.new }
         ensures cost { (d : ℕ) → map.len (counts_in self.now) < 2 ^ d → C.total steps.new ≤ C.total steps.old + 2 * (d + 8) }
     {
-        self.catalog.matching_len(&self.region, pattern, steps)
+        match self.catalog.slots_of(&self.region, pattern) {
+            Some(wanted) => self.catalog.index.range_len(wanted, steps),
+            None => 0,
+        }
     }
 
     /// The stored triples that agree with the pattern, in memory of their own: each is read from its texts.
@@ -77,6 +81,9 @@ impl Store {
         ensures count { result ≡ count_of (counts_in self.now) triple.now }
         ensures cost { WithinSteps (map.len (counts_in self.now)) 8 (C.total steps.old) (C.total steps.new) }
     {
-        self.catalog.count(&self.region, triple, steps)
+        match self.catalog.key_of(&self.region, triple) {
+            Some(key) => self.catalog.index.count(key, steps),
+            None => 0,
+        }
     }
 }

@@ -5,16 +5,17 @@ ghost use Rattle.std.specs.FinMap as map;
 ghost use Rattle.rdf_term.specs.declared.triple.Triple.{Triple};
 ghost use Rattle.text_region.specs.{declared.piece.Piece.Piece as ThePiece, Class.IsClassOf, Region.live, Region.made};
 ghost use Rattle.slot_keys.specs.declared.key.Key.{Key};
-ghost use Rattle.triple_store.specs.Room.{room_for};
+ghost use Rattle.triple_catalog.specs.{Room.room_for, Stored.Changes};
 ghost use Rattle.triple_store.specs.StoreState.{AreLaid, HasKey, IsSound, beside, counts_in, limit_of};
-ghost use Rattle.triple_store.specs.Stored.{Changes};
 
-use crate::catalog::Catalog;
 use rdf_term::OutOfMemory;
+use slot_index::SlotIndex;
 use std::alloc::Global;
 use std::hash::RandomState;
 use std::marker::Model;
+use term_pool::Pool;
 use text_region::{Piece, Region};
+use triple_catalog::Catalog;
 
 /// The triples that some entity owns, with the number of their owners, and a region with the texts of their terms, each once. The caller
 /// may have texts of its own in the region, beside these. Contracts see the counts of the stored triples, the keys under which they are
@@ -26,7 +27,8 @@ pub struct Store {
 }
 
 impl Model for Store {
-    ghost use Rattle.triple_store.specs.{StoreState.StoreState, StoreState.store_code, Stored.IsStored};
+    ghost use Rattle.triple_catalog.specs.Stored.{IsStored};
+    ghost use Rattle.triple_store.specs.{StoreState.StoreState, StoreState.store_code};
 
     ghost Value = { StoreState };
 
@@ -46,7 +48,11 @@ impl Store {
         ensures limit { IfOk result (λ store. limit_of store ≡ limit) }
     {
         let region = Region::new(alloc)?;
-        let catalog = Catalog::new(alloc, keys, limit);
+        let catalog = Catalog {
+            alloc,
+            pool: Pool::new(alloc, keys, limit),
+            index: SlotIndex::new(alloc),
+        };
         Ok(Store { catalog, region })
     }
 
@@ -59,7 +65,7 @@ impl Store {
         ensures kept { (key : Key) (triple : Triple) → HasKey self.old key triple → HasKey self.new key triple }
         ensures limit { limit_of self.new ≡ limit }
     {
-        self.catalog.set_limit(limit);
+        self.catalog.pool.set_limit(limit);
     }
 
     /// Puts a copy of the bytes into the region, beside the terms' texts. It takes memory only where no block of their size is in no use;
@@ -74,7 +80,8 @@ impl Store {
         ensures kept { (key : Key) (triple : Triple) → HasKey self.old key triple → HasKey self.new key triple }
         ensures limit { limit_of self.new ≡ limit_of self.old }
     {
-        self.catalog.place(&mut self.region, bytes)
+        let piece = self.region.place(bytes)?;
+        Ok(piece)
     }
 
     /// Gives back the block of a text beside the terms', which takes no memory.
@@ -86,7 +93,7 @@ impl Store {
         ensures kept { (key : Key) (triple : Triple) → HasKey self.old key triple → HasKey self.new key triple }
         ensures limit { limit_of self.new ≡ limit_of self.old }
     {
-        self.catalog.free(&mut self.region, piece);
+        self.region.free(piece);
     }
 
     /// A text beside the terms', which takes no memory.
@@ -94,7 +101,7 @@ impl Store {
         requires live { IsSome (beside self.now piece.now) }
         ensures { beside self.now piece.now ≡ Some result.now }
     {
-        self.catalog.read(&self.region, piece)
+        self.region.read(piece)
     }
 
     /// The region, which has the texts of the stored triples' terms and those beside them.
@@ -109,7 +116,7 @@ impl Store {
     pub fn triples(&self) -> usize
         ensures { result ≡ map.len (counts_in self.now) }
     {
-        self.catalog.triples()
+        self.catalog.index.len()
     }
 
     /// The number of distinct terms of the stored triples.
@@ -117,6 +124,6 @@ impl Store {
         ensures count { result ≡ room_for (counts_in self.now) [] }
         ensures within { result ≤ limit_of self.now }
     {
-        self.catalog.terms()
+        self.catalog.pool.len()
     }
 }

@@ -1,19 +1,28 @@
 // Triples get owners and lose them: the store's calls. A counter is told their steps in the index.
 
-ghost use Rattle.std.specs.Prelude.{◌≡◌, ◌+◌, ◌<◌, false, List, [], length, IfOk, IfSome, IsTrue};
+ghost use Rattle.std.specs.Prelude.{◌≡◌, ◌+◌, ◌<◌, false, List, [], length, IfNone, IfOk, IfSome, IsTrue, OnErr};
 ghost use Rattle.std.specs.FinMap as map;
-ghost use Rattle.rdf_term.specs.declared.triple.Triple.{Triple};
-ghost use Rattle.triple_store.specs.{Costs.Costs, StoreState.counts_in, Telling.if_told};
-ghost use Rattle.triple_store.specs.Updates.{AreLeft, AreStored, ComesTo, IsExchange, IsPatched, IsRelease, KeepsRest, MayCome, MayGo};
+ghost use Rattle.sorted_sets.specs.Rising.{IsRising};
+ghost use Rattle.rdf_term.specs.declared.triple.Triple.{Triple as TheTriple};
+ghost use Rattle.slot_keys.specs.{KeyCounts.AddKeys, Keys.key_cmp};
+ghost use Rattle.triple_catalog.specs.Costs.{Costs};
+ghost use Rattle.triple_store.specs.{StoreState.counts_in, Telling.if_told};
+ghost use Rattle.triple_store.specs.Updates.{AreLeft, AreStored, AreTimesOf, ComesTo, Exceeds, IsExchange, IsPatched, IsRelease, KeepsRest, MayCome, MayGo};
 
 use crate::StoreFault;
-use crate::exchanging::{Swap, timed};
 use crate::store::Store;
-use crate::telling::{Change, Telling};
+use crate::telling::{Change, Sides, Telling, change_if};
+use crate::times::less_times;
 use comparison_steps::StepCounter;
-use rdf_term::OutOfMemory;
-use slot_keys::{KeySlices, Keys, Left, copied};
+use rdf_term::{OutOfMemory, Triple};
+use slot_keys::{
+    KeySlices, Keys, KeysBeside, Left, Met, all_in_order, copied, keys_beside, no_keys_met,
+    times_after,
+};
+use std::alloc::Global;
+use triple_catalog::Swap;
 use triple_patch::Patch;
+use triple_sink::emit_all;
 use triple_texts::TripleTexts;
 
 /// What an exchange gives.
@@ -48,18 +57,40 @@ impl Store {
         requires as_many { 0 < length left.counts.now → length left.counts.now ≡ length left.keys.rising.now }
         ensures exchanged { IsExchange telling self.old self.new left.entry.keys.rising.now left.entry.counts.now new.now result }
         ensures rest { KeepsRest self.old self.new }
-        ensures cost { (before after : List Triple) → ComesTo self.old left.entry.keys.rising.now left.entry.counts.now new.now before after → Costs (map.len (counts_in self.old)) (map.len (counts_in self.new)) (length after) (if_told telling (length after + length left.entry.keys.rising.now) + (length after + length left.entry.keys.rising.now)) (C.total steps.old) (C.total steps.new) }
+        ensures cost { (before after : List TheTriple) → ComesTo self.old left.entry.keys.rising.now left.entry.counts.now new.now before after → Costs (map.len (counts_in self.old)) (map.len (counts_in self.new)) (length after) (if_told telling (length after + length left.entry.keys.rising.now) + (length after + length left.entry.keys.rising.now)) (C.total steps.old) (C.total steps.new) }
     {
         if is_nothing(left, new) {
             return self.exchange_for_none(left.keys, telling, steps);
         }
-        match self
+        let alloc = self.catalog.alloc;
+        let Ok(mut met) = no_keys_met(alloc, new.len()) else {
+            return Err(StoreFault::OutOfMemory);
+        };
+        let old = left.keys.rising;
+        let swap = Swap { left, new };
+        let taken = self
             .catalog
-            .exchange(&mut self.region, Swap { left, new }, telling, steps)
-        {
-            Ok(done) => Ok(timed(self.catalog.alloc, done)),
-            Err(fault) => Err(fault),
+            .take_in(&mut self.region, swap, &mut met, steps);
+        if let Err(fault) = taken {
+            let these = all_in_order(alloc, old, met);
+            self.catalog.undo(&mut self.region, these, old, steps);
+            return Err(fault);
         }
+        let Ok(laid) = keys_beside(alloc, left, &met) else {
+            let these = all_in_order(alloc, old, met);
+            self.catalog.undo(&mut self.region, these, old, steps);
+            return Err(StoreFault::OutOfMemory);
+        };
+        let KeysBeside { keys, counts, gone } = laid;
+        let rising = keys.slices().rising;
+        let sides = Sides { old, new: rising };
+        let Ok(change) = change_if(&self.catalog, telling, &self.region, sides, steps) else {
+            self.catalog.undo(&mut self.region, keys, old, steps);
+            return Err(StoreFault::OutOfMemory);
+        };
+        self.catalog
+            .remove_beside(&mut self.region, gone.as_slice(), rising, steps);
+        Ok(timed(alloc, keys, counts, change, met))
     }
 
     // The same where nothing is left and nothing comes. Only telling takes memory.
@@ -74,22 +105,20 @@ impl Store {
         ensures rest { KeepsRest self.old self.new }
         ensures cost { Costs (map.len (counts_in self.old)) (map.len (counts_in self.new)) 0 (if_told telling (length old.entry.rising.now) + length old.entry.rising.now) (C.total steps.old) (C.total steps.new) }
     {
-        match self
-            .catalog
-            .release(&mut self.region, old.rising, telling, steps)
-        {
+        let alloc = self.catalog.alloc;
+        match self.release(old, telling, steps) {
             Ok(change) => Ok(Exchange {
-                keys: Keys::none(self.catalog.alloc),
-                times: Vec::new(self.catalog.alloc),
+                keys: Keys::none(alloc),
+                times: Vec::new(alloc),
                 change,
             }),
             Err(_) => Err(StoreFault::OutOfMemory),
         }
     }
 
-    /// What is left of the times of an owner's triples after some are gone, in the order of the keys. `None` where the times aren't known, or a
-    /// triple that is gone isn't one of the owner's as many times. Where the walk comes to the key of a triple, this compares texts and
-    /// looks nothing up.
+    /// What is left of the times of an owner's triples after some are gone, in the order of the keys. `None` where the times aren't known, which
+    /// an empty list says, or a triple that is gone isn't one of the owner's as many times. Where the walk comes to the key of a triple, this
+    /// compares texts and looks nothing up. It asks for memory for a copy of the times alone, and only where there are as many as keys.
     pub fn times_left(
         &self,
         keys: KeySlices<'_>,
@@ -100,12 +129,14 @@ impl Store {
         ensures left { IfOk result (λ known. IfSome known (λ left. AreLeft self.now keys.entry.rising.now times.now left.items gone.now)) }
         ensures as_many { IfOk result (λ known. IfSome known (λ left. length left.items ≡ length keys.entry.rising.now)) }
         ensures some { IfOk result (λ known. IfSome known (λ left. 0 < length left.items)) }
+        ensures none { IfOk result (λ known. IfNone known (0 < length times.now → (before : List TheTriple) → AreTimesOf self.now keys.entry.rising.now times.now before → Exceeds gone.now before)) }
+        ensures err { OnErr result ((0 < length times.now) × (length times.now ≡ length keys.entry.rising.now)) }
     {
         if times.is_empty() || times.len() != keys.rising.len() {
             return Ok(None);
         }
         let counts = copied(self.catalog.alloc, times)?;
-        Ok(self.catalog.less_times(&self.region, keys, counts, gone))
+        Ok(less_times(&self.catalog, &self.region, keys, counts, gone))
     }
 
     /// Takes one owner away from the triples of these keys, and where it is to tell the change, tells which triples it made stored no longer.
@@ -122,8 +153,12 @@ impl Store {
         ensures rest { KeepsRest self.old self.new }
         ensures cost { Costs (map.len (counts_in self.old)) (map.len (counts_in self.new)) 0 (if_told telling (length old.entry.rising.now) + length old.entry.rising.now) (C.total steps.old) (C.total steps.new) }
     {
+        let old = old.rising;
+        let sides = Sides { old, new: &[] };
+        let change = change_if(&self.catalog, telling, &self.region, sides, steps)?;
         self.catalog
-            .release(&mut self.region, old.rising, telling, steps)
+            .remove_beside(&mut self.region, old, &[], steps);
+        Ok(change)
     }
 
     /// Counts one owner more of each triple that comes and one less of each that goes; what has no owner left is no longer
@@ -137,7 +172,25 @@ impl Store {
         ensures rest { KeepsRest self.old self.new }
         ensures cost { Costs (map.len (counts_in self.old)) (map.len (counts_in self.new)) (length patch.now.adds) (length patch.now.adds + length patch.now.removes) (C.total steps.old) (C.total steps.new) }
     {
-        self.catalog.apply(&mut self.region, patch, steps)
+        let removes = patch.removes.items();
+        if patch.adds.items().is_empty() {
+            self.catalog.remove_all(&mut self.region, removes, steps);
+            return Ok(());
+        }
+        let Ok(texts) = texts_of(self.catalog.alloc, patch.adds.items()) else {
+            return Err(StoreFault::OutOfMemory);
+        };
+        let left = Left {
+            keys: KeySlices::none(),
+            counts: &[],
+        };
+        match self.exchange(left, &texts, Telling::Nothing, steps) {
+            Ok(_given) => {
+                self.catalog.remove_all(&mut self.region, removes, steps);
+                Ok(())
+            }
+            Err(fault) => Err(fault),
+        }
     }
 }
 
@@ -147,4 +200,29 @@ fn is_nothing(left: Left<'_>, new: &TripleTexts) -> bool
     ensures some { result ≡ false → left.entry.counts.now ≡ [] → new.now ≡ [] → ⊥ }
 {
     left.counts.is_empty() && new.len() == 0
+}
+
+// What an exchange gave, with the times of its keys: what is left of each count, and once more for each time that its key was met.
+fn timed(alloc: Global, keys: Keys, counts: Vec<u16>, change: Option<Change>, met: Met) -> Exchange
+    requires rising { IsRising key_cmp keys.rising.items }
+    requires as_many { length counts.items ≡ length keys.rising.items }
+    ensures keys { result.keys ≡ keys }
+    ensures change { result.change ≡ change }
+    ensures times { 0 < length result.times.items → AddKeys keys.rising.items counts.items result.times.items met.keys.items }
+{
+    let times = times_after(alloc, keys.slices(), counts, met.keys.as_slice());
+    Exchange {
+        keys,
+        times,
+        change,
+    }
+}
+
+// Triples by their texts.
+fn texts_of(alloc: Global, triples: &[Triple]) -> Result<TripleTexts, OutOfMemory>
+    ensures { IfOk result (λ texts. texts ≡ triples.now) }
+{
+    let mut texts = TripleTexts::new(alloc);
+    emit_all(alloc, triples, &mut texts)?;
+    Ok(texts)
 }

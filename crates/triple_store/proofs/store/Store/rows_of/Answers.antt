@@ -1,5 +1,5 @@
 -- The keys of one owner tell its triples.
-use Rattle.triple_store.proofs.OneOwner.{rows_are}
+use Rattle.triple_catalog.proofs.OneOwner.{rows_are}
 use Rattle.triple_store.proofs.store.Store.rows_of.Goals as goal
 
 pub returns : goal.returns

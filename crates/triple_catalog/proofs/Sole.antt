@@ -1,0 +1,28 @@
+-- Keys with one owner that aren't among others, one key after another.
+use Rattle.std.proofs.Common.{◌≡◌, ◌≢◌, ℕ, ◌+◌, ◌<◌, ◌==◌, true, false, cond, List, [], ◌∷◌, ◌++◌, take, length, get_or, append-nil, sym, ◌∙◌, ap}
+use Rattle.std.specs.Prelude.{filter}
+use Rattle.std.proofs.{lemmas.Bool.eqb-true, lemmas.List.Elements.filter-append}
+use Rattle.sorted_sets.specs.Rising.{has, difference}
+use Rattle.slot_keys.specs.{declared.key.Key.Key, Keys.key_cmp, Keys.key_cmp-total}
+use Rattle.slot_keys.proofs.Lists.{difference_more, difference_same, never}
+use Rattle.slot_index.specs.Counts as keyed
+use Rattle.triple_catalog.specs.{declared.catalog.Catalog.Catalog, Lines.sole}
+
+-- one more key: it is among the others, or has one owner, or more
+module _ (st : Catalog) (keys others found : List Key) (i : ℕ) (d : Key) (low : i < length keys) (so_far : found ≡ sole st (take i keys) others) where
+  abbrev next : Key
+  next = get_or keys i d
+
+  pub sole_among_others : has key_cmp next others ≡ true → found ≡ sole st (take (i + 1) keys) others
+  sole_among_others there = so_far ∙ ap (filter (λ k. keyed.count_of st.index k == 1)) (sym (difference_same key_cmp-total keys others i d low there))
+
+  sole_next : has key_cmp next others ≡ false → sole st (take (i + 1) keys) others ≡ sole st (take i keys) others ++ cond (keyed.count_of st.index next == 1) (next ∷ []) []
+  sole_next out =
+      ap (filter (λ k. keyed.count_of st.index k == 1)) (difference_more key_cmp-total keys others i d low out)
+      ∙ filter-append (λ k. keyed.count_of st.index k == 1) (difference key_cmp (take i keys) others) (next ∷ [])
+
+  pub sole_one : has key_cmp next others ≡ false → (n : ℕ) → n ≡ keyed.count_of st.index next → n ≡ 1 → (new : List Key) → new ≡ found ++ next ∷ [] → new ≡ sole st (take (i + 1) keys) others
+  sole_one out n is one new pushed = pushed ∙ ap (λ ks. ks ++ next ∷ []) so_far ∙ sym (sole_next out ∙ ap (λ b. sole st (take i keys) others ++ cond b (next ∷ []) []) (ap (λ m. m == 1) (sym is ∙ one)))
+
+  pub sole_several : has key_cmp next others ≡ false → (n : ℕ) → n ≡ keyed.count_of st.index next → n ≢ 1 → found ≡ sole st (take (i + 1) keys) others
+  sole_several out n is several = so_far ∙ sym (sole_next out ∙ ap (λ b. sole st (take i keys) others ++ cond b (next ∷ []) []) (never (keyed.count_of st.index next == 1) (λ e. several (is ∙ eqb-true _ 1 e))) ∙ append-nil (sole st (take i keys) others))

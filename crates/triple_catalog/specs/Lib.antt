@@ -1,0 +1,11 @@
+pub mod Costs
+pub mod Counts
+pub mod Interning
+pub mod Lines
+pub mod Matching
+pub mod Moves
+pub mod Ranks
+pub mod Room
+pub mod Rows
+pub mod Slots
+pub mod Stored

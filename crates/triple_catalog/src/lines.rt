@@ -1,0 +1,70 @@
+// The lines of the triples that have one owner.
+
+ghost use Rattle.std.specs.Prelude.{◌≡◌, true, length, IfOk};
+ghost use Rattle.std.specs.FinMap as map;
+ghost use Rattle.sorted_sets.specs.Rising.{IsRising, has, sorted};
+ghost use Rattle.rdf_term.specs.Order.{triple_cmp};
+ghost use Rattle.slot_keys.specs.{declared.key.Key.Key as TheKey, Keys.key_cmp};
+ghost use Rattle.triple_catalog.specs.{Costs.Costs, Lines.AreLinesOf, Lines.sole, Moves.triples_at, Stored.IsStored, Stored.is_key};
+
+use crate::catalog::Catalog;
+use comparison_steps::StepCounter;
+use rdf_term::OutOfMemory;
+use slot_keys::{Key, find_from};
+use text_region::Region;
+
+/// The lines of triples in rising order, each with its LF, and the number of the triples.
+#[derive(Drop)]
+pub struct TripleLines {
+    pub count: usize,
+    pub text: Vec<u8>,
+}
+
+impl Catalog {
+    /// The lines of the triples with one owner whose keys are these, but for the keys that are among others.
+    pub fn sole_lines<C: StepCounter>(
+        &self,
+        region: &Region,
+        keys: &[Key],
+        others: &[Key],
+        steps: &mut C,
+    ) -> Result<TripleLines, OutOfMemory>
+        requires stored { IsStored self.now region.now }
+        requires rising { IsRising key_cmp keys.now }
+        requires others { IsRising key_cmp others.now }
+        requires there { (key : TheKey) → has key_cmp key keys.now ≡ true → is_key self.now key ≡ true }
+        ensures lines { IfOk result (λ lines. AreLinesOf lines (sorted triple_cmp (triples_at self.now region.now (sole self.now keys.now others.now)))) }
+        ensures cost { Costs (map.len self.now.index) (map.len self.now.index) 0 (length keys.now) (C.total steps.old) (C.total steps.new) }
+    {
+        let found = self.sole_keys(keys, others, steps)?;
+        let rows = self.rows_of(region, found.as_slice())?;
+        rows.lines(self.alloc)
+    }
+
+    // The keys with one owner, but for those that are among others.
+    fn sole_keys<C: StepCounter>(
+        &self,
+        keys: &[Key],
+        others: &[Key],
+        steps: &mut C,
+    ) -> Result<Vec<Key>, OutOfMemory>
+        requires others { IsRising key_cmp others.now }
+        ensures sole { IfOk result (λ found. found.items ≡ sole self.now keys.now others.now) }
+        ensures cost { Costs (map.len self.now.index) (map.len self.now.index) 0 (length keys.now) (C.total steps.old) (C.total steps.new) }
+    {
+        let mut found = Vec::new(self.alloc);
+        let mut next = 0;
+        for key in keys {
+            match find_from(others, *key, next) {
+                Ok(index) => next = index + 1,
+                Err(index) => {
+                    next = index;
+                    if self.index.count(*key, steps) == 1 {
+                        found.push(*key)?;
+                    }
+                }
+            }
+        }
+        Ok(found)
+    }
+}
