@@ -2,33 +2,25 @@
 use Rattle.std.proofs.Common.{◌≡◌, refl, sym, subst, inl, inr, ℕ, ◌+◌, Bool, true, false, List, [], ◌∷◌, ◌++◌, Option, Some, None, arith}
 use Rattle.std.specs.List.{flat_map}
 use Rattle.sorted_sets.specs.Rising.{In}
-use Rattle.rdf_term.specs.declared.term.Term.{Term}
-use Rattle.rdf_term.specs.declared.triple.Triple.{Triple}
-use Rattle.entity_model.specs.declared.entity.Entity.{Entity}
-use Rattle.entity_model.specs.declared.value.Tagged.{Tagged}
-use Rattle.entity_model.specs.declared.mapping.MappingVersion.{MappingVersion}
+use Rattle.rdf_term.specs.{declared.term.Term.Term, declared.triple.Triple.Triple}
+use Rattle.entity_model.specs.{declared.entity.Entity.Entity, declared.value.Tagged.Tagged, declared.mapping.MappingVersion.MappingVersion}
 use Rattle.entity_model.specs.declared.snak.Content.{Content}
 use Rattle.entity_model.specs.declared.snak.Content.TheVariants.{Value as AValue, NoValue, SomeValue}
-use Rattle.entity_model.specs.declared.snak.Snak.{Snak}
-use Rattle.entity_model.specs.declared.statement.Reference.{Reference}
-use Rattle.entity_model.specs.declared.statement.Statement.{Statement}
+use Rattle.entity_model.specs.{declared.snak.Snak.Snak, declared.statement.Reference.Reference, declared.statement.Statement.Statement}
 use Rattle.entity_model.specs.declared.value.Value.{Value}
 use Rattle.entity_model.specs.declared.value.Value.TheVariants.{Entity as AnId, Str, Time, Quantity, Globe, Mono, Other}
-use Rattle.rdf_vocabulary.specs.declared.predicate.Predicate.{Predicate}
-use Rattle.rdf_vocabulary.specs.declared.prefix.Prefix.TheVariants.{Wdv}
+use Rattle.rdf_vocabulary.specs.{declared.predicate.Predicate.Predicate, declared.prefix.Prefix.TheVariants.Wdv}
 use Rattle.rdf_vocabulary.specs.Prefix.{entity_term, prefixed}
 use Rattle.value_nodes.specs.Name.{node_name}
 use Rattle.value_nodes.specs.Nodes.{bound_triples, named_triples, node_triples, precision_triples, value_part_triples}
 use Rattle.value_nodes.specs.Said.{object_triples}
-use Rattle.statement_facts.specs.declared.role.Role.{Role}
+use Rattle.statement_facts.specs.{declared.role.Role.Role, Node.reference_node, Node.statement_node}
 use Rattle.statement_facts.specs.declared.role.Role.TheVariants as Roles
-use Rattle.statement_facts.specs.Node.{reference_node, statement_node}
 use Rattle.statement_rdf.specs.Snak.{content_triples, link_triples, snak_triples}
 use Rattle.statement_rdf.specs.Statement.{direct_content, head_triples, main_triples, reference_triples, source_triples, statement_triples, where_best}
-use Rattle.sitelinks.specs.Article.{article_triples}
-use Rattle.page_rdf.specs.Dataset.{dataset_term}
 use Rattle.statement_rdf.specs.Statements.{statements_triples}
-use Rattle.page_rdf.specs.Spoken.{spoken_triples}
+use Rattle.sitelinks.specs.Article.{article_triples}
+use Rattle.page_rdf.specs.{Dataset.dataset_term, Spoken.spoken_triples}
 use Rattle.entity_rdf.specs.Dump.{entity_triples}
 use Rattle.drill.specs.Drill.{item}
 use Rattle.drill_replay.proofs.Parts.{HasNone, IsLabelled, IsSourced}

@@ -1,19 +1,15 @@
 -- How one delivery more is counted, and what the world answers to it.
 use Rattle.std.proofs.Common.{◌≡◌, ◌∙◌, refl, sym, ap, ℕ, ◌+◌, Bool, true, false, cond, not, ◌&&◌, List, [], ◌∷◌, ◌++◌, append-nil, length, length-append, Option, None, Some, arith}
 use Rattle.sorted_sets.specs.Rising.{has}
-use Rattle.sorted_sets.proofs.Filtering.{has-filter}
-use Rattle.sorted_sets.proofs.Rising.{has-sorted}
-use Rattle.entity_model.specs.declared.event.Event.{Event}
-use Rattle.entity_model.specs.Event.{event_cmp, event_cmp_same, event_cmp_total}
+use Rattle.sorted_sets.proofs.{Filtering.has-filter, Rising.has-sorted}
+use Rattle.entity_model.specs.{declared.event.Event.Event, Event.event_cmp, Event.event_cmp_same, Event.event_cmp_total}
 use Rattle.delivery.specs.declared.Delivery.{Delivery}
 use Rattle.delivery.specs.declared.Delivery.TheVariants.{Event as Told, Watermark, Ask, Mapping, Match}
 use Rattle.reorder_buffer.specs.declared.taken.Taken.{Taken}
 use Rattle.reorder_buffer.specs.declared.taken.Taken.TheVariants.{New, Repeat, Late}
 use Rattle.reorder_buffer.specs.Watermarks.{reached}
 use Rattle.replay_model.specs.Acceptance.{accepted, events, is_accepted, is_late, is_repeat, late, mark}
-use Rattle.replay_model.specs.Fate.{in_order}
-use Rattle.replay_model.specs.Play.{Replies}
-use Rattle.replay_model.specs.ReplayState.{following}
+use Rattle.replay_model.specs.{Fate.in_order, Play.Replies, ReplayState.following}
 use Rattle.replay_model.proofs.Deliveries.{events_passing-kept, events_passing-told}
 use Rattle.drill_replay.specs.declared.counts.DrillCounts.{DrillCounts}
 use Rattle.drill_replay.specs.Playing.{Counted, HasFew, answer_of, with_answer}

@@ -1,22 +1,17 @@
 -- Lists of triples whose terms are few beside some that are known.
 use Rattle.std.proofs.Common.{refl, sym, ap, subst, inl, inr, ◌⊎◌, ⊎_elim, Bool, true, false, cond, ℕ, ◌+◌, ◌≤◌, Less, Equal, Greater, List, [], ◌∷◌, ◌++◌, map, length, length-append, arith}
-use Rattle.std.specs.BTreeSet.{insert_key}
-use Rattle.std.specs.List.{flat_map}
-use Rattle.std.specs.Ordering.{match_ordering}
+use Rattle.std.specs.{BTreeSet.insert_key, List.flat_map, Ordering.match_ordering}
 use Rattle.std.proofs.lemmas.List.{length-map}
 use Rattle.sorted_sets.specs.Rising.{In, sorted}
 use Rattle.sorted_sets.proofs.Members.{has-member, member-has, member-sorted}
-use Rattle.rdf_term.specs.declared.term.Term.{Term}
-use Rattle.rdf_term.specs.declared.term.Term.TheVariants.{Iri}
-use Rattle.rdf_term.specs.declared.triple.Triple.{Triple}
+use Rattle.rdf_term.specs.{declared.term.Term.Term, declared.term.Term.TheVariants.Iri, declared.triple.Triple.Triple}
 use Rattle.rdf_term.specs.Order.{term_cmp, term_cmp-total, triple_cmp, triple_cmp-total}
 use Rattle.rdf_term.proofs.Texts.{term_cmp-IsAntisymmetric, triple_cmp-IsAntisymmetric}
 use Rattle.entity_model.specs.declared.id.EntityId.{EntityId}
 use Rattle.statement_rdf.proofs.Members.{in_back, in_either, in_front, flat_map_in}
 use Rattle.value_nodes.specs.Said.{triple}
 use Rattle.munger.specs.Iris.{dataset_iri, entity_iri, is_iri_of}
-use Rattle.munger.specs.Munging.{left_by, moved_to, munge, munged}
-use Rattle.munger.specs.Naming.{named, named_triple}
+use Rattle.munger.specs.{Munging.left_by, Munging.moved_to, Munging.munge, Munging.munged, Naming.named, Naming.named_triple}
 use Rattle.munger.specs.Verdict.{has_dropped_type, is_moved, repeats_label}
 use Rattle.triple_store.specs.Room.{distinct, terms_of}
 use Rattle.triple_store.proofs.Distinct.{fewer}

@@ -1,31 +1,22 @@
 -- The terms of what is held and of a page that comes are among those of the pages that the deliveries may bring.
 use Rattle.std.proofs.Common.{◌≡◌, refl, sym, subst, ◌∙◌, ap, inl, ⊎_elim, ℕ, ◌≤◌, Bool, true, false, cond, List, [], ◌++◌, Option, None, Some, unwrap_or}
 use Rattle.std.specs.FinMap as map
-use Rattle.std.specs.List.{flat_map}
-use Rattle.std.specs.Option.{option_map}
+use Rattle.std.specs.{List.flat_map, Option.option_map}
 use Rattle.sorted_sets.specs.Rising.{In, has}
-use Rattle.sorted_sets.proofs.Members.{has-member, member-has}
-use Rattle.sorted_sets.proofs.Rising.{has-sorted}
-use Rattle.rdf_term.specs.declared.term.Term.{Term}
-use Rattle.rdf_term.specs.declared.triple.Triple.{Triple}
+use Rattle.sorted_sets.proofs.{Members.has-member, Members.member-has, Rising.has-sorted}
+use Rattle.rdf_term.specs.{declared.term.Term.Term, declared.triple.Triple.Triple}
 use Rattle.rdf_term.specs.Order.{term_cmp, term_cmp-total, triple_cmp, triple_cmp-total}
 use Rattle.rdf_term.proofs.Texts.{term_cmp-IsAntisymmetric, triple_cmp-IsAntisymmetric}
 use Rattle.delivery.specs.declared.Delivery.{Delivery}
-use Rattle.entity_model.specs.declared.event.Event.{Event}
-use Rattle.entity_model.specs.declared.id.EntityId.{EntityId}
-use Rattle.entity_model.specs.declared.mapping.MappingVersion.{MappingVersion}
+use Rattle.entity_model.specs.{declared.event.Event.Event, declared.id.EntityId.EntityId, declared.mapping.MappingVersion.MappingVersion}
 use Rattle.entity_model.specs.declared.mapping.MappingVersion.TheVariants.{One, Two}
-use Rattle.entity_model.specs.EntityId.{entity_cmp}
-use Rattle.entity_model.specs.Event.{event_cmp, event_cmp_same}
-use Rattle.entity_state.specs.declared.record.Held.{Held}
-use Rattle.entity_state.specs.Record.{blank}
-use Rattle.replay_model.specs.Acceptance.{events}
-use Rattle.replay_model.specs.Records.{Bytes, Records, record_of}
-use Rattle.replay_model.specs.Union.{Meaning, triples_at, triples_held, union}
-use Rattle.replay_model.specs.Versions.{meaning_by, version_at}
+use Rattle.entity_model.specs.{EntityId.entity_cmp, Event.event_cmp, Event.event_cmp_same}
+use Rattle.entity_state.specs.{declared.record.Held.Held, Record.blank}
+use Rattle.replay_model.specs.{Acceptance.events, Records.Bytes, Records.Records, Records.record_of}
+use Rattle.replay_model.specs.{Union.Meaning, Union.triples_at, Union.triples_held, Union.union, Versions.meaning_by, Versions.version_at}
 use Rattle.triple_store.specs.Room.{distinct, terms_of}
 use Rattle.triple_store.proofs.Distinct.{fewer}
-use Rattle.world.specs.Meaning.{meaning}
+use Rattle.fetched_pages.specs.Meaning.{meaning}
 use Rattle.world.specs.Roomed.{room_with}
 use Rattle.world.proofs.Entries.{over_ids}
 use Rattle.drill_replay.specs.Told.{keeps_page, page_events, terms_by, terms_there, triples_there, versions_told}

@@ -1,22 +1,17 @@
 -- How many terms the pages of a drill have.
 use Rattle.std.proofs.Common.{◌≡◌, refl, subst, ℕ, ◌+◌, ◌<◌, ◌^◌, List, [], Option, Some, None, arith}
-use Rattle.json_spell.specs.Grammar.{Reads}
-use Rattle.json_spell.specs.Tree.{Tree}
+use Rattle.json_spell.specs.{Grammar.Reads, Tree.Tree}
 use Rattle.json_spell.proofs.Complete.{one_tree}
 use Rattle.entity_model.specs.declared.document.Document.{Document}
 use Rattle.entity_model.specs.declared.document.Document.TheVariants.{Entity as AnEntity, Redirect, Lexeme as ALexeme}
-use Rattle.entity_model.specs.declared.mapping.MappingVersion.{MappingVersion}
-use Rattle.entity_model.specs.declared.statement.Statement.{Statement}
-use Rattle.entity_json.specs.declared.page.Page.{Page}
-use Rattle.entity_json.specs.Document.{document_of}
-use Rattle.entity_json.specs.Pages.{IsPage}
+use Rattle.entity_model.specs.{declared.mapping.MappingVersion.MappingVersion, declared.statement.Statement.Statement}
+use Rattle.entity_json.specs.{declared.page.Page.Page, Document.document_of, Pages.IsPage}
 use Rattle.entity_json.proofs.Fitness.{documents}
 use Rattle.entity_rdf.specs.Dump.{dump}
-use Rattle.world.specs.Meaning.{meaning, triples_if}
+use Rattle.fetched_pages.specs.Meaning.{meaning, triples_if}
 use Rattle.drill.specs.Drill.{earlier_page, item, later_page}
 use Rattle.drill_replay.specs.Trees.{earlier_tree, later_tree}
-use Rattle.drill_replay.proofs.Counted.{stated, unstated}
-use Rattle.drill_replay.proofs.Covered.{Covered, at_most, left, none}
+use Rattle.drill_replay.proofs.{Counted.stated, Counted.unstated, Covered.Covered, Covered.at_most, Covered.left, Covered.none}
 use Rattle.drill_replay.proofs.Pages.{earlier_read, later_read}
 use Rattle.drill_replay.proofs.Parts.{HasNone, IsLabelledPage, IsSourced, earlier_shape, later_shape}
 

@@ -1,41 +1,28 @@
 -- Where it is known what the source has, each page that is held or wanted is at a revision that a delivered event names.
 use Rattle.std.proofs.Common.{◌≡◌, ℕ, zero, suc, Bool, true, false, cond, ◌||◌, ◌&&◌, ◌==◌, nat_lt, nat_le, List, [], ◌∷◌, ◌++◌, Option, None, Some, Result, Ok, Err, refl, sym, ◌∙◌, ap, subst, true≢false, filter}
-use Rattle.std.specs.List.{cons_option}
-use Rattle.std.specs.Ordering.{eq_by_cmp}
-use Rattle.entity_model.specs.declared.id.EntityId.{EntityId}
-use Rattle.entity_model.specs.declared.event.Event.{Event}
-use Rattle.entity_model.specs.declared.event.Kind.{Kind}
+use Rattle.std.specs.{List.cons_option, Ordering.eq_by_cmp}
+use Rattle.entity_model.specs.{declared.id.EntityId.EntityId, declared.event.Event.Event, declared.event.Kind.Kind}
 use Rattle.entity_model.specs.declared.event.Kind.TheVariants.{Edit, Delete, Undelete, ReconcileDeleted, ReconcileKept}
-use Rattle.entity_model.specs.declared.unfit.Unfit.{Unfit}
+use Rattle.entity_model.specs.{declared.unfit.Unfit.Unfit, Event.event_cmp, Event.event_cmp_total, Event.event_cmp_same}
 use Rattle.delivery.specs.declared.Delivery.{Delivery}
 use Rattle.delivery.specs.declared.Delivery.TheVariants.{Event as Told, Watermark, Ask, Mapping, Match}
-use Rattle.entity_model.specs.Event.{event_cmp, event_cmp_total, event_cmp_same}
-use Rattle.entity_state.specs.declared.state.State.{State}
-use Rattle.entity_state.specs.declared.record.Held.{Held}
-use Rattle.entity_state.specs.declared.record.Record.{Record}
+use Rattle.entity_state.specs.{declared.state.State.State, declared.record.Held.Held, declared.record.Record.Record}
 use Rattle.entity_state.specs.State.{after_kind, deleted, is_deleted, is_kept, kept, state_after}
 use Rattle.entity_state.specs.Record.{held_revision, wants}
-use Rattle.side_output.specs.declared.entry.Cause.{Cause}
-use Rattle.side_output.specs.declared.entry.Cause.TheVariants.{Failed}
+use Rattle.side_output.specs.{declared.entry.Cause.Cause, declared.entry.Cause.TheVariants.Failed}
 use Rattle.reorder_buffer.specs.declared.taken.Taken.{Taken}
 use Rattle.reorder_buffer.specs.declared.taken.Taken.TheVariants.{New, Repeat, Late}
-use Rattle.reorder_buffer.specs.Watermarks.{is_due}
-use Rattle.reorder_buffer.specs.Buffered.{after_answer, answer_to, first_due}
+use Rattle.reorder_buffer.specs.{Watermarks.is_due, Buffered.after_answer, Buffered.answer_to, Buffered.first_due}
 use Rattle.sorted_sets.specs.Rising.{has}
-use Rattle.sorted_sets.proofs.Bools.{and_left, and_right, clash, equal, or_true}
-use Rattle.sorted_sets.proofs.Filtering.{has-filter}
-use Rattle.sorted_sets.proofs.FirstPassing.{has-found, has-remove_key}
-use Rattle.sorted_sets.proofs.Pushes.{by_pushes}
+use Rattle.sorted_sets.proofs.{Bools.and_left, Bools.and_right, Bools.clash, Bools.equal, Bools.or_true, Filtering.has-filter}
+use Rattle.sorted_sets.proofs.{FirstPassing.has-found, FirstPassing.has-remove_key, Pushes.by_pushes}
 use Rattle.sorted_sets.proofs.Rising.{has-append, has-insert_key, has_itself}
-use Rattle.replay_model.specs.Acceptance.{event_of, events}
-use Rattle.replay_model.specs.Explained.{is_fetching, revision_wanted}
-use Rattle.replay_model.specs.Fate.{is_of}
+use Rattle.replay_model.specs.{Acceptance.event_of, Acceptance.events, Explained.is_fetching, Explained.revision_wanted, Fate.is_of}
 use Rattle.replay_model.specs.Play.{Played, Replies, apply, apply_all, held_after, held_after_fetch, record_after}
 use Rattle.replay_model.specs.Records.{Bytes, record_of}
 use Rattle.replay_model.specs.ReplayState.{ReplayState, after_applying, after_due, after_end, after_event, after_mark, after_next, after_some, delivered, due_now, entered, following, nothing_delivered_within}
 use Rattle.replay_model.specs.Replies.{Judgement, judged, reply_there, source_replies}
-use Rattle.replay_model.proofs.Arrivals.{events-push}
-use Rattle.replay_model.proofs.Following.{following-delivered}
+use Rattle.replay_model.proofs.{Arrivals.events-push, Following.following-delivered}
 use Rattle.replay_model.proofs.RecordOf.{entity_of, record-after, record_of-empty}
 use Rattle.drill_replay.specs.Told.{keeps_page}
 

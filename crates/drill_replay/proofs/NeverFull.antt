@@ -1,28 +1,21 @@
 -- There is room for each page that the world of a drill wants.
 use Rattle.std.proofs.Common.{◌≡◌, ◌∙◌, refl, sym, ap, subst, inl, ⊎_elim, ◌||◌, ℕ, ◌<◌, ◌≤◌, true, List, [], ◌∷◌, ◌++◌, append_assoc, None, Some, arith}
 use Rattle.std.proofs.lemmas.List.Elements.{filter_map-append}
-use Rattle.sorted_sets.proofs.Bools.{clash}
+use Rattle.sorted_sets.proofs.{Bools.clash, Rising.has-append}
 use Rattle.entity_json.specs.Document.{unfit_of}
 use Rattle.delivery.specs.declared.Delivery.{Delivery}
-use Rattle.entity_model.specs.declared.event.Event.{Event}
-use Rattle.entity_model.specs.declared.mapping.MappingVersion.TheVariants.{One}
-use Rattle.entity_model.specs.Event.{event_cmp}
+use Rattle.entity_model.specs.{declared.event.Event.Event, declared.mapping.MappingVersion.TheVariants.One, Event.event_cmp}
 use Rattle.sorted_sets.specs.Rising.{has}
-use Rattle.sorted_sets.proofs.Rising.{has-append}
 use Rattle.reorder_buffer.specs.Buffered.{first_due}
-use Rattle.replay_model.specs.Acceptance.{event_of, events}
-use Rattle.replay_model.specs.Explained.{is_fetching, revision_wanted}
-use Rattle.replay_model.specs.Records.{Bytes}
-use Rattle.replay_model.specs.ReplayState.{ReplayState, following}
-use Rattle.replay_model.specs.Versions.{meaning_by}
-use Rattle.world.specs.Meaning.{meaning}
+use Rattle.replay_model.specs.{Acceptance.event_of, Acceptance.events, Explained.is_fetching, Explained.revision_wanted, Records.Bytes}
+use Rattle.replay_model.specs.{ReplayState.ReplayState, ReplayState.following, Versions.meaning_by}
+use Rattle.fetched_pages.specs.Meaning.{meaning}
 use Rattle.world.specs.Roomed.{room_with}
 use Rattle.drill_replay.proofs.Fits.{fits}
 use Rattle.drill_replay.proofs.Named.{AreAmong, GivesThere, WorldNamed, end_named, entered_named, first_among, following_named, last_among, some_named, source_gives, wanted_named}
-use Rattle.drill.specs.Drill.{IsSize, contents_of, drill}
-use Rattle.drill_replay.specs.Playing.{HasBegun, StandsAtEnd, StandsBetween, StandsWithin}
-use Rattle.drill_replay.specs.Summary.{replies_of}
 use Rattle.drill_replay.proofs.Roomy.{roomy}
+use Rattle.drill.specs.Drill.{IsSize, contents_of, drill}
+use Rattle.drill_replay.specs.{Playing.HasBegun, Playing.StandsAtEnd, Playing.StandsBetween, Playing.StandsWithin, Summary.replies_of}
 
 -- ---- what is held and what waits
 

@@ -4,21 +4,15 @@ use Rattle.std.specs.Prelude.{codes}
 use Rattle.json_spell.specs.Tree.{Tree, array, no_trees, tree, member_of}
 use Rattle.entity_model.specs.declared.document.Document.{Document}
 use Rattle.entity_model.specs.declared.document.Document.TheVariants.{Entity as AnEntity, Redirect, Lexeme as ALexeme}
-use Rattle.entity_model.specs.declared.entity.Entity.{Entity}
-use Rattle.entity_model.specs.declared.entity.Link.{Link}
-use Rattle.entity_model.specs.declared.id.EntityId.{EntityId}
+use Rattle.entity_model.specs.{declared.entity.Entity.Entity, declared.entity.Link.Link, declared.id.EntityId.EntityId}
 use Rattle.entity_model.specs.declared.id.IdKind.{IdKind}
 use Rattle.entity_model.specs.declared.id.IdKind.TheVariants.{P, Q, L}
-use Rattle.entity_model.specs.declared.snak.Snak.{Snak}
-use Rattle.entity_model.specs.declared.statement.Reference.{Reference}
-use Rattle.entity_model.specs.declared.statement.Statement.{Statement}
+use Rattle.entity_model.specs.{declared.snak.Snak.Snak, declared.statement.Reference.Reference, declared.statement.Statement.Statement}
 use Rattle.entity_model.specs.declared.value.Tagged.{Tagged}
-use Rattle.entity_json.specs.declared.page.Page.{Page}
-use Rattle.entity_json.specs.Leaves.{◌>>=◌, text_at, text_of}
-use Rattle.entity_json.specs.Maps.{map_at}
-use Rattle.entity_json.specs.Members.{HasOptionalText}
+use Rattle.entity_json.specs.{declared.page.Page.Page, Maps.map_at, Members.HasOptionalText}
 use Rattle.entity_json.specs.Pages.{HasLinks, IsDocument, IsEntity, IsPage, StandsAt}
 use Rattle.entity_json.specs.Statements.{AreStatements, IsReference, IsStatement}
+use Rattle.entity_json.specs.Leaves.{◌>>=◌, text_at, text_of}
 use Rattle.drill_replay.specs.Trees.{claims, earlier_tree, labels, later_tree, page, reference, source_snak, statement}
 use Rattle.drill_replay.proofs.Unwound.{none_in_map, one_in_list, one_in_map}
 

@@ -1,31 +1,22 @@
 -- The pages of a drill have no more terms than its world has room for.
 use Rattle.std.proofs.Common.{◌≡◌, ◌∙◌, refl, ap, subst, inl, inr, ◌⊎◌, ⊎_elim, ℕ, zero, suc, ◌+◌, ◌-◌, ◌*◌, ◌/◌, ◌%◌, ◌<◌, ◌≤◌, ◌==◌, nat_le, ◌&&◌, Bool, true, false, cond, if◌then◌else◌, List, [], ◌∷◌, ◌++◌, filter, length, length-append, None, Some, unwrap_or, arith}
-use Rattle.std.specs.List.{flat_map, range_with_len}
-use Rattle.std.specs.Option.{option_map}
-use Rattle.std.proofs.lemmas.List.Elements.{filter_map-append}
-use Rattle.std.proofs.lemmas.Bool.Decides.{nat_tests}
+use Rattle.std.specs.{List.flat_map, List.range_with_len, Option.option_map}
+use Rattle.std.proofs.{lemmas.List.Elements.filter_map-append, lemmas.Bool.Decides.nat_tests}
 use Rattle.sorted_sets.specs.Rising.{In}
 use Rattle.sorted_sets.proofs.Members.{has-member, member-has}
-use Rattle.rdf_term.specs.declared.term.Term.{Term}
-use Rattle.rdf_term.specs.declared.triple.Triple.{Triple}
-use Rattle.rdf_term.specs.Order.{term_cmp-total}
+use Rattle.rdf_term.specs.{declared.term.Term.Term, declared.triple.Triple.Triple, Order.term_cmp-total}
 use Rattle.rdf_term.proofs.Texts.{term_cmp-IsAntisymmetric}
-use Rattle.delivery.specs.declared.Delivery.{Delivery}
-use Rattle.delivery.specs.declared.Delivery.TheVariants.{Watermark}
-use Rattle.entity_model.specs.declared.event.Event.{Event}
-use Rattle.entity_model.specs.declared.event.Kind.TheVariants.{Delete, Edit}
-use Rattle.entity_model.specs.declared.id.EntityId.{EntityId}
-use Rattle.entity_model.specs.declared.mapping.MappingVersion.TheVariants.{One}
+use Rattle.delivery.specs.{declared.Delivery.Delivery, declared.Delivery.TheVariants.Watermark}
+use Rattle.entity_model.specs.{declared.event.Event.Event, declared.event.Kind.TheVariants.Delete, declared.event.Kind.TheVariants.Edit}
+use Rattle.entity_model.specs.{declared.id.EntityId.EntityId, declared.mapping.MappingVersion.TheVariants.One}
 use Rattle.replay_model.specs.Acceptance.{event_of, events}
 use Rattle.triple_store.specs.Room.{distinct, terms_of}
 use Rattle.triple_store.proofs.Distinct.{fewer}
-use Rattle.world.specs.Meaning.{meaning}
+use Rattle.fetched_pages.specs.Meaning.{meaning}
 use Rattle.drill_replay.specs.Told.{keeps_page, page_events, terms_by, terms_there, triples_there, versions_told}
 use Rattle.drill_replay.proofs.Gathered.{giver_of, in_either, in_front, in_rest}
+use Rattle.drill_replay.proofs.{Covered.Covered, Covered.distinct_few, Meant.earlier_few, Meant.later_few, Versions.no_versions}
 use Rattle.drill.specs.Drill.{IsSize, contents_of, deletion, item_deliveries, drill, earlier_page, edits, event, item, late_edit, later_page, page_of, time_at}
-use Rattle.drill_replay.proofs.Covered.{Covered, distinct_few}
-use Rattle.drill_replay.proofs.Meant.{earlier_few, later_few}
-use Rattle.drill_replay.proofs.Versions.{no_versions}
 
 -- ---- events
 

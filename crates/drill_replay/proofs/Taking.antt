@@ -1,16 +1,13 @@
 -- The deliveries of an item, one after the other.
 use Rattle.std.proofs.Common.{◌≡◌, ◌∙◌, sym, ap, subst, ℕ, suc, ◌+◌, ◌<◌, ◌≤◌, List, [], ◌∷◌, ◌++◌, Option, None, append_assoc, add-one, drop-cons, length, get_or, take, drop}
-use Rattle.std.proofs.Math.Seq.{take-suc}
-use Rattle.std.proofs.lemmas.List.{take-append-drop, take_all}
+use Rattle.std.proofs.{Math.Seq.take-suc, lemmas.List.take-append-drop, lemmas.List.take_all}
 use Rattle.delivery.specs.declared.Delivery.{Delivery}
 use Rattle.reorder_buffer.specs.declared.taken.Taken.{Taken}
 use Rattle.replay_model.specs.ReplayState.{ReplayState, following}
 use Rattle.drill.specs.Drill.{item_deliveries, drill}
 use Rattle.drill_replay.specs.declared.counts.DrillCounts.{DrillCounts}
-use Rattle.drill_replay.specs.Playing.{Counted, HasFew, answer_of, with_answer}
-use Rattle.drill_replay.specs.Summary.{replies_of}
-use Rattle.drill_replay.proofs.Counting.{counted-next, few-next}
-use Rattle.drill_replay.proofs.Drills.{drill-next}
+use Rattle.drill_replay.specs.{Playing.Counted, Playing.HasFew, Playing.answer_of, Playing.with_answer, Summary.replies_of}
+use Rattle.drill_replay.proofs.{Counting.counted-next, Counting.few-next, Drills.drill-next}
 
 module _ (n : ℕ) (items : List Delivery) (i : ℕ) where
   -- the next of them

@@ -2,8 +2,7 @@
 use Rattle.std.proofs.Common.{◌≡◌, ◌∙◌, sym, ap, subst, ℕ, List, [], ◌∷◌, ◌++◌, append-nil, Some}
 use Rattle.json_spell.specs.Tree.{Tree}
 use Rattle.json_spell.proofs.Opened.{some_is}
-use Rattle.entity_json.specs.Maps.{map_at}
-use Rattle.entity_json.specs.Joined.{InList, InMap, Joined, One, numbered}
+use Rattle.entity_json.specs.{Maps.map_at, Joined.InList, Joined.InMap, Joined.Joined, Joined.One, Joined.numbered}
 
 module _ {A : Type 0} where
   -- what one value gives is all

@@ -3,12 +3,10 @@ use Rattle.std.proofs.Common.{◌≡◌, ◌∙◌, refl, sym, ap, ℕ, ◌-◌,
 use Rattle.std.specs.List.{flat_map, last_or, range_with_len}
 use Rattle.std.proofs.lemmas.List.Elements.{filter_map-append}
 use Rattle.sorted_sets.proofs.Pushes.{first_empty}
-use Rattle.delivery.specs.declared.Delivery.{Delivery}
-use Rattle.delivery.specs.declared.Delivery.TheVariants.{Watermark}
+use Rattle.delivery.specs.{declared.Delivery.Delivery, declared.Delivery.TheVariants.Watermark}
 use Rattle.entity_model.specs.declared.event.Kind.TheVariants.{Delete, Edit}
 use Rattle.entity_model.specs.declared.mapping.MappingVersion.TheVariants.{One}
-use Rattle.replay_model.specs.Acceptance.{mapping_of, version_in_force}
-use Rattle.replay_model.specs.Transcript.{pattern_of, shapes_of}
+use Rattle.replay_model.specs.{Acceptance.mapping_of, Acceptance.version_in_force, Transcript.pattern_of, Transcript.shapes_of}
 use Rattle.drill.specs.Drill.{item_deliveries, drill, edits, event, time_at}
 
 -- the deliveries of an item, by whether it is a fifth and a tenth one

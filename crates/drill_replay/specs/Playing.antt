@@ -3,15 +3,13 @@ use Rattle.std.specs.Prelude.{◌≡◌, ◌⊎◌, ℕ, ◌+◌, ◌≤◌, Lis
 use Rattle.entity_model.specs.declared.mapping.MappingVersion.TheVariants.{One}
 use Rattle.delivery.specs.declared.Delivery.{Delivery}
 use Rattle.delivery.specs.declared.Delivery.TheVariants.{Event as Told, Watermark, Ask, Mapping, Match}
-use Rattle.reorder_buffer.specs.Buffered.{Buffered, answer_to}
-use Rattle.reorder_buffer.specs.declared.taken.Taken.{Taken}
+use Rattle.reorder_buffer.specs.{Buffered.Buffered, Buffered.answer_to, declared.taken.Taken.Taken}
 use Rattle.reorder_buffer.specs.declared.taken.Taken.TheVariants.{New, Repeat, Late}
 use Rattle.replay_model.specs.Acceptance.{accepted, late}
 use Rattle.replay_model.specs.ReplayState.{ReplayState, after_end, after_some, entered, following}
 use Rattle.world.specs.WorldState.{WorldState}
 use Rattle.drill.specs.Drill.{drill}
-use Rattle.drill_replay.specs.declared.counts.DrillCounts.{DrillCounts}
-use Rattle.drill_replay.specs.Summary.{replies_of}
+use Rattle.drill_replay.specs.{declared.counts.DrillCounts.DrillCounts, Summary.replies_of}
 
 -- these deliveries were counted
 pub record Counted (ds : List Delivery) (counts : DrillCounts) : Type 0 where

@@ -1,20 +1,13 @@
 -- What a drill leads to, and what is told of it.
 use Rattle.std.specs.Prelude.{ℕ, Bool, None, List, [], ◌∷◌, ◌++◌, count_by, codes, decimal, flat_map, length}
 use Rattle.std.specs.FinMap as map
-use Rattle.rdf_term.specs.declared.triple.Triple.{Triple}
-use Rattle.rdf_term.specs.Order.{triple_cmp}
-use Rattle.rdf_term.specs.Text.{triple_text}
-use Rattle.entity_model.specs.declared.id.EntityId.{EntityId}
-use Rattle.entity_model.specs.declared.mapping.MappingVersion.TheVariants.{One}
+use Rattle.rdf_term.specs.{declared.triple.Triple.Triple, Order.triple_cmp, Text.triple_text}
+use Rattle.entity_model.specs.{declared.id.EntityId.EntityId, declared.mapping.MappingVersion.TheVariants.One}
 use Rattle.entity_json.specs.Document.{unfit_of}
 use Rattle.entity_state.specs.State.{is_kept}
-use Rattle.replay_model.specs.Acceptance.{accepted, late}
-use Rattle.replay_model.specs.Play.{Replies}
-use Rattle.replay_model.specs.Records.{Records, record_of}
-use Rattle.replay_model.specs.Replies.{source_replies}
-use Rattle.replay_model.specs.ReplayState.{ReplayState, following_to_end}
-use Rattle.replay_model.specs.Union.{union}
-use Rattle.world.specs.Meaning.{meaning}
+use Rattle.replay_model.specs.{Acceptance.accepted, Acceptance.late, Play.Replies, Records.Records, Records.record_of}
+use Rattle.replay_model.specs.{Replies.source_replies, ReplayState.ReplayState, ReplayState.following_to_end, Union.union}
+use Rattle.fetched_pages.specs.Meaning.{meaning}
 use Rattle.hex.specs.Hex.{encode_lower}
 use Rattle.md5.specs.Md5.{md5}
 use Rattle.drill.specs.Drill.{contents_of, drill}

@@ -1,20 +1,14 @@
 -- The pages that deliveries may bring, and their terms.
 use Rattle.std.specs.Prelude.{ℕ, Bool, true, false, List, [], ◌∷◌, Option, filter, filter_map, unwrap_or}
-use Rattle.std.specs.List.{flat_map}
-use Rattle.std.specs.Option.{option_map}
+use Rattle.std.specs.{List.flat_map, Option.option_map}
 use Rattle.rdf_term.specs.declared.term.Term.{Term}
-use Rattle.entity_model.specs.declared.id.EntityId.{EntityId}
-use Rattle.delivery.specs.declared.Delivery.{Delivery}
-use Rattle.entity_model.specs.declared.event.Event.{Event}
-use Rattle.entity_model.specs.declared.event.Kind.{Kind}
+use Rattle.entity_model.specs.{declared.id.EntityId.EntityId, declared.event.Event.Event, declared.event.Kind.Kind}
 use Rattle.entity_model.specs.declared.event.Kind.TheVariants.{Edit, Delete, Undelete, ReconcileDeleted, ReconcileKept}
-use Rattle.entity_model.specs.declared.mapping.MappingVersion.{MappingVersion}
-use Rattle.entity_model.specs.declared.mapping.MappingVersion.TheVariants.{One}
-use Rattle.replay_model.specs.Acceptance.{events, mapping_of}
-use Rattle.replay_model.specs.Records.{Bytes}
-use Rattle.replay_model.specs.Union.{Meaning}
+use Rattle.entity_model.specs.{declared.mapping.MappingVersion.MappingVersion, declared.mapping.MappingVersion.TheVariants.One}
+use Rattle.delivery.specs.declared.Delivery.{Delivery}
+use Rattle.replay_model.specs.{Acceptance.events, Acceptance.mapping_of, Records.Bytes, Union.Meaning}
 use Rattle.triple_store.specs.Room.{terms_of}
-use Rattle.world.specs.Meaning.{meaning}
+use Rattle.fetched_pages.specs.Meaning.{meaning}
 
 -- whether an event of this kind may say that its page is there
 abbrev pub keeps_page : Kind → Bool

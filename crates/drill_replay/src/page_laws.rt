@@ -5,7 +5,7 @@ ghost use Rattle.std.specs.List.{flat_map};
 ghost use Rattle.json_spell.specs.Grammar.{Reads};
 ghost use Rattle.entity_model.specs.declared.mapping.MappingVersion.{MappingVersion};
 ghost use Rattle.triple_store.specs.Room.{distinct, terms_of};
-ghost use Rattle.world.specs.Meaning.{meaning};
+ghost use Rattle.fetched_pages.specs.Meaning.{meaning};
 ghost use Rattle.drill.specs.Drill.{earlier_page, item, later_page};
 ghost use Rattle.drill_replay.specs.Trees.{earlier_tree, later_tree};
 

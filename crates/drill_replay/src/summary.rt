@@ -4,7 +4,7 @@ ghost use Rattle.std.specs.Prelude.{◌≡◌, ◌++◌, IfOk, map, string_bytes
 ghost use Rattle.replay_model.specs.Union.{union};
 ghost use Rattle.rdf_term.specs.Order.{triple_cmp};
 ghost use Rattle.entity_model.specs.declared.mapping.MappingVersion.TheVariants.{One};
-ghost use Rattle.world.specs.Meaning.{meaning};
+ghost use Rattle.fetched_pages.specs.Meaning.{meaning};
 ghost use Rattle.md5.specs.Md5.{md5};
 ghost use Rattle.drill.specs.Drill.{drill};
 ghost use Rattle.drill_replay.specs.Playing.{Counted, IsByFirst};

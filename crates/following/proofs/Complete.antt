@@ -2,11 +2,8 @@
 use Rattle.std.proofs.Common.{◌≡◌, ◌⊎◌, inl, inr, ⊎_elim, refl, sym, subst, ◌∙◌, ap, ℕ, ◌+◌, ◌<◌, ◌≤◌, true, is_some, List, [], ◌∷◌, ◌++◌, length, Option, None, Some, IfSome, IsSome, append-nil, arith, true≢false}
 use Rattle.std.specs.Option.{option_map}
 use Rattle.std.proofs.lemmas.Bool.{cases_lt}
-use Rattle.wq_io.specs.Streams.{Rose, before_known}
-use Rattle.wq_io.specs.Lines.{input_lines, lines}
-use Rattle.replica.specs.declared.reader.Begun.{Begun}
-use Rattle.replica.specs.declared.record.PatchRecord.{PatchRecord}
-use Rattle.replica.specs.Laws.{IsGreatest}
+use Rattle.wq_io.specs.{Streams.Rose, Streams.before_known, Lines.input_lines, Lines.lines}
+use Rattle.replica.specs.{declared.reader.Begun.Begun, declared.record.PatchRecord.PatchRecord, Laws.IsGreatest}
 use Rattle.replica.specs.Replica.{after, numbered, terms_with}
 use Rattle.text_output.specs.declared.write.Unwritten.{Unwritten}
 use Rattle.text_output.specs.declared.write.Unwritten.TheVariants.{WriteFault as NotWritten, OutOfMemory as UnwrittenOutOfMemory}
@@ -15,13 +12,11 @@ use Rattle.following.specs.declared.stop.RecordCause.{RecordCause}
 use Rattle.following.specs.declared.stop.RecordCause.TheVariants.{LineLong, Head, Triple, Order, Short}
 use Rattle.following.specs.declared.stop.FollowStop.{FollowStop}
 use Rattle.following.specs.declared.stop.FollowStop.TheVariants.{BadLine, ReadFault, WriteFault, TooLong, StoreFull, OutOfMemory}
-use Rattle.following.specs.Following.{BrokenOff, FollowMoment, StoppedFollowing, follower_limit}
-use Rattle.following.specs.Input.{Input}
+use Rattle.following.specs.{Following.BrokenOff, Following.FollowMoment, Following.StoppedFollowing, Following.follower_limit, Input.Input}
 use Rattle.following.specs.Reading.{AreLinesOf, AreRecords, RecordsPastLimit}
 use Rattle.following.specs.Stop.{HasNoRoomForRecord, IsRefused, StandsAtLine, TakingStopped, stop_of_unwritten}
 use Rattle.following.specs.Taking.{HadRoom, IsRecordOverfull}
-use Rattle.following.proofs.KnownBytes.{at_known}
-use Rattle.following.proofs.Received.{still_after, still_numbered}
+use Rattle.following.proofs.{KnownBytes.at_known, Received.still_after, Received.still_numbered}
 use Rattle.following.proofs.Refusals.{all_clash, more_clash, one_list, reads_on, same_cause}
 
 -- ---- room

@@ -1,12 +1,10 @@
 -- What a follower leaves at its end.
 use Rattle.std.proofs.Common.{◌≡◌, Ok, Err, inr, refl, ap, subst}
 use Rattle.replica.specs.Replica.{ReplicaState, after}
-use Rattle.text_output.specs.declared.write.Unwritten.{Unwritten}
-use Rattle.text_output.specs.Printing.{Prints}
+use Rattle.text_output.specs.{declared.write.Unwritten.Unwritten, Printing.Prints}
 use Rattle.arguments.specs.Options.{FollowChoices, follow_max_bytes_of}
 use Rattle.following.specs.Following.{Ending, HasFollowed, FollowMoment, StoppedFollowing, follower_limit, replica_text}
-use Rattle.following.specs.Stop.{stop_of_unwritten}
-use Rattle.following.specs.Taking.{HadRoom, HasTakenRecords}
+use Rattle.following.specs.{Stop.stop_of_unwritten, Taking.HadRoom, Taking.HasTakenRecords}
 
 module _ (choices : FollowChoices) (before now : FollowMoment) (state : ReplicaState) (taken : HasTakenRecords (follow_max_bytes_of choices) before.input now.input state) (limit : state.limit ≡ follower_limit) where
   followed : HasFollowed choices taken.items state.applied before.input now.input

@@ -5,9 +5,7 @@ use Rattle.std.specs.Option.{option_map}
 use Rattle.sorted_sets.specs.Rising.{Each}
 use Rattle.wq_io.specs.Streams.{IsAtEnd, LastRead, before_known}
 use Rattle.wq_io.specs.Lines.{GoesOn, IsLineLong, IsNeeded, IsOneLine, IsSound, IsTooLong, IsUndecided, ReadsAsNeeded, Reading, StopsInLine, TakesBytes, before_lines, ended_lines, fresh, input_length, line_feed, lines, input_lines, room, unread}
-use Rattle.replica.specs.declared.reader.Begun.{Begun}
-use Rattle.replica.specs.declared.reader.PatchFault.{PatchFault}
-use Rattle.replica.specs.declared.record.PatchRecord.{PatchRecord}
+use Rattle.replica.specs.{declared.reader.Begun.Begun, declared.reader.PatchFault.PatchFault, declared.record.PatchRecord.PatchRecord}
 use Rattle.replica.specs.Reader.{HasCause}
 use Rattle.following.specs.Reading.{AreFirstLines, AreLinesOf, AreRecords, BeginsWith, EndsInLine, EndsInside, HasReadLines, IsBadRecordLine, IsOverLong, RecordsPastLimit, TakesLinesByNeed, longest_line}
 use Rattle.following.proofs.KnownBytes.{Each-push, Known, at_known, before_both, known_parts, lines_grow, not_ended, same_room, still, too_long, whole_grows}

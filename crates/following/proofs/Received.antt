@@ -6,8 +6,7 @@ use Rattle.replica.specs.Replica.{Follows, HasRoomForNext, HasNoRoomForNext, Rep
 use Rattle.replica.proofs.Following.{follows_nothing}
 use Rattle.term_pool.specs.declared.fault.PoolFault.{PoolFault}
 use Rattle.term_pool.specs.declared.fault.PoolFault.TheVariants.{Full, OutOfMemory as PoolOutOfMemory}
-use Rattle.following.specs.Stop.{HeldUp, stop_of_store}
-use Rattle.following.specs.Taking.{HadRoom, HasApplied, HasReceived, IsRecordOverfull}
+use Rattle.following.specs.{Stop.HeldUp, Stop.stop_of_store, Taking.HadRoom, Taking.HasApplied, Taking.HasReceived, Taking.IsRecordOverfull}
 
 -- ---- records behind the others
 

@@ -5,16 +5,12 @@ use Rattle.sorted_sets.specs.Rising.{Each}
 use Rattle.wq_io.specs.Lines.{lines}
 use Rattle.replica.specs.declared.reader.Begun.{Begun}
 use Rattle.replica.specs.declared.reader.PatchFault.TheVariants.{Head as NoHead, Triple as NoTriple, Order as OutOfOrder}
-use Rattle.replica.specs.declared.record.PatchRecord.{PatchRecord}
-use Rattle.replica.specs.Laws.{IsReadAs}
-use Rattle.replica.specs.Reader.{HasCause, TakesLine, may_come_next}
+use Rattle.replica.specs.{declared.record.PatchRecord.PatchRecord, Laws.IsReadAs, Reader.HasCause, Reader.TakesLine, Reader.may_come_next}
 use Rattle.replica.proofs.Determined.{read_parts, read_same, read_through, triples_same}
-use Rattle.replica.proofs.LineLengths.{IsShort, lines_short}
-use Rattle.replica.proofs.ReadLines.{reads_lines}
+use Rattle.replica.proofs.{LineLengths.IsShort, LineLengths.lines_short, ReadLines.reads_lines}
 use Rattle.following.specs.declared.stop.RecordCause.{RecordCause}
 use Rattle.following.specs.declared.stop.RecordCause.TheVariants.{LineLong, Head, Triple, Order, Short}
-use Rattle.following.specs.Reading.{AreLinesOf, longest_line}
-use Rattle.following.specs.Stop.{IsRefused}
+use Rattle.following.specs.{Reading.AreLinesOf, Reading.longest_line, Stop.IsRefused}
 use Rattle.following.proofs.FirstLines.{goes_on_for}
 
 -- ---- lines of records

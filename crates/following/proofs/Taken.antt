@@ -4,16 +4,12 @@ use Rattle.wq_io.specs.Streams.{IsAtEnd, LastRead, Rose}
 use Rattle.wq_io.specs.Lines.{HasCause as HasLineCause, IsSound, Leaves, Reading, ReadsAsNeeded, fresh, unread}
 use Rattle.wq_io.specs.declared.lines.LineFault.{LineFault}
 use Rattle.wq_io.specs.declared.lines.LineFault.TheVariants.{ReadFault as NotRead, TooLong as PastLimit, LineLong as OverLong, OutOfMemory as LineOutOfMemory}
-use Rattle.replica.specs.declared.reader.Begun.{Begun}
-use Rattle.replica.specs.declared.reader.PatchFault.{PatchFault}
+use Rattle.replica.specs.{declared.reader.Begun.Begun, declared.reader.PatchFault.PatchFault}
 use Rattle.replica.specs.declared.reader.PatchFault.TheVariants.{Head as NoHead, Triple as NoTriple, Order as OutOfOrder, OutOfMemory as PatchOutOfMemory}
-use Rattle.replica.specs.declared.record.PatchRecord.{PatchRecord}
-use Rattle.replica.specs.Reader.{HasCause, lines_read as lines_begun}
+use Rattle.replica.specs.{declared.record.PatchRecord.PatchRecord, Reader.HasCause, Reader.lines_read as lines_begun}
 use Rattle.replica.specs.Replica.{ReplicaState, nothing_received}
-use Rattle.following.specs.declared.stop.FollowStop.{FollowStop}
-use Rattle.following.specs.declared.stop.FollowStop.TheVariants.{BadLine}
-use Rattle.following.specs.declared.stop.RecordCause.TheVariants.{Short}
-use Rattle.following.specs.Input.{Input}
+use Rattle.following.specs.{declared.stop.FollowStop.FollowStop, declared.stop.FollowStop.TheVariants.BadLine}
+use Rattle.following.specs.{declared.stop.RecordCause.TheVariants.Short, Input.Input}
 use Rattle.following.specs.Reading.{AreLinesOf, HasReadLines, TakesLinesByNeed, longest_line}
 use Rattle.following.specs.Stop.{HasNoRoomForRecord, TakingStopped, StopsAtLine, stop_of_line, stop_of_record}
 use Rattle.following.specs.Taking.{AppliesLine, HadRoom, HasApplied, HasTakenRecords, OverfillsByLine, TakenLines}

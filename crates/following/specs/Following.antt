@@ -1,21 +1,14 @@
 -- What a follower prints, and what it leaves.
 use Rattle.std.specs.Prelude.{◌≡◌, ◌⊎◌, ℕ, Bool, cond, List, [], ◌++◌, None, IfSome, codes, decimal}
-use Rattle.wq_io.specs.Streams.{IsAtEnd, after_known}
-use Rattle.wq_io.specs.declared.source.Source.{Ghosts as SourceOf}
+use Rattle.wq_io.specs.{Streams.IsAtEnd, Streams.after_known, declared.source.Source.Ghosts as SourceOf}
 use Rattle.wq_io.specs.declared.sink.Sink.{Ghosts as SinkOf}
 use Rattle.rdf_term.specs.declared.triple.Triple.{Triple}
-use Rattle.replica.specs.declared.record.PatchRecord.{PatchRecord}
-use Rattle.replica.specs.Laws.{IsGreatest}
-use Rattle.replica.specs.Replica.{after}
+use Rattle.replica.specs.{declared.record.PatchRecord.PatchRecord, Laws.IsGreatest, Replica.after}
 use Rattle.replay_model.specs.Transcript.{export_section}
-use Rattle.text_output.specs.declared.write.Unwritten.{Unwritten}
-use Rattle.text_output.specs.Printing.{IsCutShort, Output, output}
+use Rattle.text_output.specs.{declared.write.Unwritten.Unwritten, Printing.IsCutShort, Printing.Output, Printing.output}
 use Rattle.arguments.specs.Options.{FollowChoices, follow_max_bytes_of}
-use Rattle.following.specs.declared.stop.FollowStop.{FollowStop}
-use Rattle.following.specs.Input.{Input, input}
-use Rattle.following.specs.Reading.{AreRecords}
-use Rattle.following.specs.Stop.{TakingStopped, stop_of_unwritten}
-use Rattle.following.specs.Taking.{HadRoom}
+use Rattle.following.specs.{declared.stop.FollowStop.FollowStop, Input.Input, Input.input, Reading.AreRecords}
+use Rattle.following.specs.{Stop.TakingStopped, Stop.stop_of_unwritten, Taking.HadRoom}
 
 -- the line `# replica <applied>`
 unfoldable pub replica_line : ℕ → List ℕ

@@ -1,16 +1,11 @@
 -- The lines of an input as those of records.
 use Rattle.std.specs.Prelude.{◌≡◌, ◌≢◌, ℕ, ◌+◌, ◌-◌, ◌<◌, ◌≤◌, false, List, ◌∷◌, ◌++◌, length, flat_map, Option, None, Some, IfSome}
-use Rattle.std.specs.Option.{option_map}
-use Rattle.std.specs.List.{AllByRecursion}
+use Rattle.std.specs.{Option.option_map, List.AllByRecursion}
 use Rattle.sorted_sets.specs.Rising.{Each}
 use Rattle.wq_io.specs.Streams.{before_known}
 use Rattle.wq_io.specs.Lines.{Reading, IsLineLong, IsOneLine, IsTooLong, IsUndecided, ended_lines, input_length, lines, input_lines, longest_read, unread}
-use Rattle.replica.specs.declared.reader.Begun.{Begun}
-use Rattle.replica.specs.declared.reader.PatchFault.{PatchFault}
-use Rattle.replica.specs.declared.record.PatchRecord.{PatchRecord}
-use Rattle.replica.specs.Laws.{HasShortNumbers}
-use Rattle.replica.specs.Reader.{HasCause, IsUnfinished, lines_read as lines_begun}
-use Rattle.replica.specs.Record.{record_lines}
+use Rattle.replica.specs.{declared.reader.Begun.Begun, declared.reader.PatchFault.PatchFault, declared.record.PatchRecord.PatchRecord}
+use Rattle.replica.specs.{Laws.HasShortNumbers, Reader.HasCause, Reader.IsUnfinished, Reader.lines_read as lines_begun, Record.record_lines}
 
 -- the most bytes that a line may have without its line feed: the line of a triple has fewer
 abbrev pub longest_line : ℕ

@@ -1,14 +1,10 @@
 -- Why a follower stopped, and what its input has then.
 use Rattle.std.specs.Prelude.{◌≡◌, ◌⊎◌, ℕ, ◌+◌, List, [], ◌∷◌, ◌++◌, length, Option, None, IfSome, ⊤}
-use Rattle.wq_io.specs.Streams.{Rose}
-use Rattle.wq_io.specs.declared.lines.LineFault.{LineFault}
+use Rattle.wq_io.specs.{Streams.Rose, declared.lines.LineFault.LineFault}
 use Rattle.wq_io.specs.declared.lines.LineFault.TheVariants.{ReadFault as NotRead, TooLong as PastLimit, LineLong as OverLong, OutOfMemory as LineOutOfMemory}
-use Rattle.replica.specs.declared.reader.Begun.{Begun}
-use Rattle.replica.specs.declared.reader.PatchFault.{PatchFault}
+use Rattle.replica.specs.{declared.reader.Begun.Begun, declared.reader.PatchFault.PatchFault}
 use Rattle.replica.specs.declared.reader.PatchFault.TheVariants.{Head as NoHead, Triple as NoTriple, Order as OutOfOrder, OutOfMemory as PatchOutOfMemory}
-use Rattle.replica.specs.declared.record.PatchRecord.{PatchRecord}
-use Rattle.replica.specs.Reader.{HasCause}
-use Rattle.replica.specs.Replica.{ReplicaState}
+use Rattle.replica.specs.{declared.record.PatchRecord.PatchRecord, Reader.HasCause, Replica.ReplicaState}
 use Rattle.term_pool.specs.declared.fault.PoolFault.{PoolFault}
 use Rattle.term_pool.specs.declared.fault.PoolFault.TheVariants.{Full, OutOfMemory as PoolOutOfMemory}
 use Rattle.text_output.specs.declared.write.Unwritten.{Unwritten}

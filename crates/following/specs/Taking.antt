@@ -1,12 +1,9 @@
 -- Records that are taken one after the other, and applied as far as they go.
 use Rattle.std.specs.Prelude.{◌≡◌, ℕ, ◌+◌, ◌<◌, ◌≤◌, List, [], ◌∷◌, ◌++◌, Option, None, Some, IfSome, IsSome}
 use Rattle.wq_io.specs.Streams.{IsAtEnd}
-use Rattle.replica.specs.declared.reader.Begun.{Begun}
-use Rattle.replica.specs.declared.record.PatchRecord.{PatchRecord}
-use Rattle.replica.specs.Laws.{IsGreatest}
+use Rattle.replica.specs.{declared.reader.Begun.Begun, declared.record.PatchRecord.PatchRecord, Laws.IsGreatest}
 use Rattle.replica.specs.Replica.{Follows, ReplicaState, after, numbered, terms_with}
-use Rattle.following.specs.Input.{Input}
-use Rattle.following.specs.Reading.{AreLinesOf, AreRecords}
+use Rattle.following.specs.{Input.Input, Reading.AreLinesOf, Reading.AreRecords}
 
 -- there was room for each record up to this number, each number standing for the first record with it
 abbrev pub HadRoom : ℕ → List PatchRecord → ℕ → Type 0

@@ -2,32 +2,25 @@
 use Rattle.std.proofs.Common.{◌≡◌, refl, sym, ◌∙◌, ap, ℕ, suc, ◌+◌, ◌*◌, ◌<◌, ◌≤◌, ◌^◌, Bool, true, false, cond, List, [], ◌∷◌, ◌++◌, length, filter, filter_map, fold, Option, None, Some, length-append, arith}
 use Rattle.std.specs.FinMap as finite
 use Rattle.std.specs.List.{cons_option}
-use Rattle.std.proofs.Math.Nat.{mul-suc, suc-mul}
-use Rattle.std.proofs.lemmas.List.{length-map}
-use Rattle.std.proofs.lemmas.Nat.{column_fits}
+use Rattle.std.proofs.{Math.Nat.mul-suc, Math.Nat.suc-mul, lemmas.List.length-map, lemmas.Nat.column_fits}
 use Rattle.sorted_sets.specs.Rising.{In}
 use Rattle.sorted_sets.proofs.Pushes.{by_pushes}
 use Rattle.triple_store.proofs.Stocked.{length-sorted}
 use Rattle.delivery.specs.declared.Delivery.{Delivery}
 use Rattle.delivery.specs.declared.Delivery.TheVariants.{Event as Told, Watermark, Ask, Mapping, Match}
-use Rattle.entity_model.specs.declared.id.EntityId.{EntityId}
-use Rattle.entity_model.specs.declared.event.Event.{Event}
-use Rattle.entity_model.specs.declared.mapping.MappingVersion.{MappingVersion}
-use Rattle.entity_model.specs.EntityId.{entity_cmp_total}
-use Rattle.entity_model.specs.Event.{event_cmp}
+use Rattle.entity_model.specs.{declared.id.EntityId.EntityId, declared.event.Event.Event, declared.mapping.MappingVersion.MappingVersion}
+use Rattle.entity_model.specs.{EntityId.entity_cmp_total, Event.event_cmp}
 use Rattle.replay_model.specs.Acceptance.{accepted, arrivals, arrivals_after, due, event_passing, is_accepted, version_in_force}
 use Rattle.replay_model.specs.Fate.{in_order}
 use Rattle.replay_model.specs.Play.{Played, Replies, apply, newly_due, nothing_played, play, records_after}
 use Rattle.replay_model.specs.Records.{Records}
 use Rattle.replay_model.specs.Versions.{all_by, holders, is_holder, version_at, with_version}
-use Rattle.replay_model.proofs.Deliveries.{due-kept, due-told}
-use Rattle.replay_model.proofs.DueParts.{due-end, due-watermark}
+use Rattle.replay_model.proofs.{Deliveries.due-kept, Deliveries.due-told, DueParts.due-end, DueParts.due-watermark}
 use Rattle.replay_model.proofs.PlayedRecords.{records-played, records_of}
 use Rattle.world.specs.WorldState.{differ, stale_by}
 use Rattle.replica.specs.declared.record.PatchRecord.{PatchRecord}
 use Rattle.patch_stream.specs.Stream.{Step, is_change, steps_anew, steps_applied, steps_of_play, steps_remapped, steps_to_end, stream}
-use Rattle.patch_stream.proofs.Chains.{steps-push}
-use Rattle.patch_stream.proofs.Streamed.{are_few}
+use Rattle.patch_stream.proofs.{Chains.steps-push, Streamed.are_few}
 
 -- ---- lists
 

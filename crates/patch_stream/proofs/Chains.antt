@@ -4,28 +4,21 @@ use Rattle.std.proofs.lemmas.List.Concat.{flat_map-append}
 use Rattle.std.specs.FinMap as map
 use Rattle.std.specs.List.{AllByRecursion}
 use Rattle.sorted_sets.specs.Rising.{IsRising, has, sorted}
-use Rattle.sorted_sets.proofs.Pushes.{by_pushes}
-use Rattle.sorted_sets.proofs.Rising.{IsRising-sorted}
-use Rattle.rdf_term.specs.declared.triple.Triple.{Triple}
-use Rattle.rdf_term.specs.Fit.{HasFitAndShortTerms}
-use Rattle.rdf_term.specs.Order.{triple_cmp, triple_cmp-total}
+use Rattle.sorted_sets.proofs.{Pushes.by_pushes, Rising.IsRising-sorted}
+use Rattle.rdf_term.specs.{declared.triple.Triple.Triple, Fit.HasFitAndShortTerms, Order.triple_cmp, Order.triple_cmp-total}
 use Rattle.delivery.specs.declared.Delivery.{Delivery}
 use Rattle.delivery.specs.declared.Delivery.TheVariants.{Event as Told, Watermark, Ask, Mapping, Match}
-use Rattle.entity_model.specs.declared.id.EntityId.{EntityId}
-use Rattle.entity_model.specs.declared.event.Event.{Event}
-use Rattle.entity_model.specs.declared.mapping.MappingVersion.{MappingVersion}
+use Rattle.entity_model.specs.{declared.id.EntityId.EntityId, declared.event.Event.Event, declared.mapping.MappingVersion.MappingVersion}
 use Rattle.entity_model.specs.declared.mapping.MappingVersion.TheVariants.{One, Two}
 use Rattle.entity_model.specs.EntityId.{entity_cmp}
 use Rattle.replay_model.specs.Acceptance.{arrivals, version_in_force}
 use Rattle.replay_model.specs.Play.{Played, Replies, apply, apply_all, newly_due, nothing_played, play, play_to_end}
-use Rattle.replay_model.specs.Records.{Records}
-use Rattle.replay_model.specs.Union.{Meaning, triples_at, union}
+use Rattle.replay_model.specs.{Records.Records, Union.Meaning, Union.triples_at, Union.union}
 use Rattle.replay_model.specs.Versions.{all_by, is_holder, meaning_by, version_at, with_version}
-use Rattle.replay_model.proofs.Arrivals.{arrivals-push, play-push}
-use Rattle.replay_model.proofs.InForce.{version-kept, version-mapping}
+use Rattle.replay_model.proofs.{Arrivals.arrivals-push, Arrivals.play-push, InForce.version-kept, InForce.version-mapping}
 use Rattle.replay_model.proofs.PlayedVersions.{by_two-remapped}
 use Rattle.replay_model.proofs.Versions.{has-holders, holders-rise, union-all, version-all}
-use Rattle.world.specs.Meaning.{meaning}
+use Rattle.fetched_pages.specs.Meaning.{meaning}
 use Rattle.world.specs.WorldState.{differ, stale_by}
 use Rattle.world.proofs.Fit.{union_fit}
 use Rattle.patch_stream.specs.Laws.{BeginsAt, IsChain}

@@ -4,18 +4,12 @@ use Rattle.std.proofs.lemmas.Bool.Decides.{nat_tests}
 use Rattle.std.specs.List.{AllByRecursion}
 use Rattle.sorted_sets.specs.Rising.{Each, In, difference, has}
 use Rattle.sorted_sets.proofs.Filtering.{IsRising-filter, has-difference}
-use Rattle.rdf_term.specs.declared.triple.Triple.{Triple}
-use Rattle.rdf_term.specs.Fit.{HasFitAndShortTerms}
-use Rattle.rdf_term.specs.Order.{triple_cmp, triple_cmp-total}
-use Rattle.replica.specs.declared.record.PatchRecord.{PatchRecord}
-use Rattle.replica.specs.Laws.{HasShortNumbers}
-use Rattle.replica.specs.Replica.{numbered}
-use Rattle.replica.specs.TripleLine.{HasReadableTerms}
+use Rattle.rdf_term.specs.{declared.triple.Triple.Triple, Fit.HasFitAndShortTerms, Order.triple_cmp, Order.triple_cmp-total}
+use Rattle.replica.specs.{declared.record.PatchRecord.PatchRecord, Laws.HasShortNumbers, Replica.numbered, TripleLine.HasReadableTerms}
 use Rattle.replica.proofs.LineFeeds.{splits_into_lines}
 use Rattle.patch_stream.specs.Laws.{AreOfStream, BeginsAt, CanBeRead, HasUtf8Terms, HasWritableSides, IsChain}
 use Rattle.patch_stream.specs.Stream.{Step, is_change, numbered_from, record_of_step, stream}
-use Rattle.patch_stream.proofs.Bounds.{filter_few}
-use Rattle.patch_stream.proofs.Streamed.{chain_of_changes}
+use Rattle.patch_stream.proofs.{Bounds.filter_few, Streamed.chain_of_changes}
 
 -- ---- triples
 

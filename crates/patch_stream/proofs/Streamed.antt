@@ -3,10 +3,8 @@ use Rattle.std.proofs.Common.{◌≡◌, refl, sym, subst, ◌∙◌, ap, ℕ, z
 use Rattle.std.proofs.lemmas.Bool.Decides.{nat_tests}
 use Rattle.std.specs.List.{AllByRecursion}
 use Rattle.sorted_sets.specs.Rising.{Each, In, IsRising, difference}
-use Rattle.rdf_term.specs.declared.triple.Triple.{Triple}
-use Rattle.rdf_term.specs.Order.{triple_cmp}
-use Rattle.replica.specs.declared.record.PatchRecord.{PatchRecord}
-use Rattle.replica.specs.Laws.{IsGreatest, IsProducer, IsRecordOf}
+use Rattle.rdf_term.specs.{declared.triple.Triple.Triple, Order.triple_cmp}
+use Rattle.replica.specs.{declared.record.PatchRecord.PatchRecord, Laws.IsGreatest, Laws.IsProducer, Laws.IsRecordOf}
 use Rattle.replica.specs.Replica.{Follows, ReplicaState, after, numbered}
 use Rattle.replica.proofs.Producers.{after_is, follows_its_producer}
 use Rattle.patch_stream.specs.Laws.{AreOfStream, IsChain}

@@ -1,7 +1,6 @@
 -- What one more step adds to a stream.
 use Rattle.std.proofs.Common.{◌≡◌, refl, sym, ◌∙◌, ap, ℕ, ◌+◌, Bool, true, false, cond, List, [], ◌∷◌, ◌++◌, length, filter, flat_map, Option, append-nil, length-append, arith}
-use Rattle.std.proofs.lemmas.List.Elements.{filter-append}
-use Rattle.std.proofs.lemmas.Grind.{flat_map-append}
+use Rattle.std.proofs.{lemmas.List.Elements.filter-append, lemmas.Grind.flat_map-append}
 use Rattle.wq_io.specs.Streams.{after_known}
 use Rattle.text_output.proofs.Parts.{after_twice}
 use Rattle.replica.specs.Record.{record_text}

@@ -3,19 +3,14 @@ use Rattle.std.proofs.Common.{◌≡◌, ◌↔◌, refl, sym, ◌∙◌, ap, su
 use Rattle.std.proofs.lemmas.Bool.Decides.{Decides-ltb}
 use Rattle.wq_io.specs.Streams.{after_known}
 use Rattle.sorted_sets.specs.Rising.{IsRising, difference, has}
-use Rattle.sorted_sets.proofs.Bools.{clash}
-use Rattle.sorted_sets.proofs.Filtering.{has-difference}
-use Rattle.sorted_sets.proofs.Rising.{has_itself, same_rising}
-use Rattle.rdf_term.specs.declared.triple.Triple.{Triple}
-use Rattle.rdf_term.specs.Order.{triple_cmp, triple_cmp-total}
+use Rattle.sorted_sets.proofs.{Bools.clash, Filtering.has-difference, Rising.has_itself, Rising.same_rising}
+use Rattle.rdf_term.specs.{declared.triple.Triple.Triple, Order.triple_cmp, Order.triple_cmp-total}
 use Rattle.rdf_term.proofs.Texts.{triple_cmp-IsAntisymmetric}
 use Rattle.triple_store.specs.declared.telling.Change.{Change}
 use Rattle.world.specs.Changing.{IsChangeOf}
-use Rattle.replica.specs.Head.{head_line}
-use Rattle.replica.specs.Record.{record_text}
+use Rattle.replica.specs.{Head.head_line, Record.record_text}
 use Rattle.replica.proofs.Records.{record_parts}
-use Rattle.text_output.specs.declared.write.Unwritten.{Unwritten}
-use Rattle.text_output.specs.declared.write.Unwritten.TheVariants.{OutOfMemory}
+use Rattle.text_output.specs.{declared.write.Unwritten.Unwritten, declared.write.Unwritten.TheVariants.OutOfMemory}
 use Rattle.text_output.specs.Printing.{Output, Prints}
 use Rattle.text_output.proofs.Parts.{IsWriting, after_nothing, cut_short_at_once, prints_both, prints_first}
 use Rattle.patch_stream.specs.Stream.{Step, TellsStep, change_text, is_change, record_of_step, step}

@@ -1,17 +1,10 @@
 -- That each step of a replay begins where the last one ended, and records that are those of its stream.
 use Rattle.std.specs.Prelude.{◌≡◌, ℕ, ◌<◌, ◌≤◌, ◌^◌, List, [], ◌∷◌, length, flat_map, IsSome}
-use Rattle.std.specs.List.{AllByRecursion}
-use Rattle.std.specs.Str.{IsUtf8}
+use Rattle.std.specs.{List.AllByRecursion, Str.IsUtf8}
 use Rattle.sorted_sets.specs.Rising.{Each, In, IsRising}
 use Rattle.wq_io.specs.Lines.{lines}
-use Rattle.rdf_term.specs.declared.triple.Triple.{Triple}
-use Rattle.rdf_term.specs.Fit.{HasFitAndShortTerms}
-use Rattle.rdf_term.specs.Order.{triple_cmp}
-use Rattle.rdf_term.specs.Text.{term_text}
-use Rattle.replica.specs.declared.record.PatchRecord.{PatchRecord}
-use Rattle.replica.specs.Laws.{HasShortNumbers}
-use Rattle.replica.specs.Record.{record_lines}
-use Rattle.replica.specs.Replica.{numbered}
+use Rattle.rdf_term.specs.{declared.triple.Triple.Triple, Fit.HasFitAndShortTerms, Order.triple_cmp, Text.term_text}
+use Rattle.replica.specs.{declared.record.PatchRecord.PatchRecord, Laws.HasShortNumbers, Record.record_lines, Replica.numbered}
 use Rattle.patch_stream.specs.Stream.{Step, changes, stream, stream_text}
 
 -- the step begins at these triples; what is stored before it and after it are sets of triples of fit and short terms

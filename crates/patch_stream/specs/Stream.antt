@@ -2,27 +2,18 @@
 use Rattle.std.specs.Prelude.{◌≡◌, ℕ, ◌+◌, ◌≤◌, Bool, true, false, ◌||◌, cond, nat_lt, List, [], ◌∷◌, ◌++◌, Option, Result, MatchResult, filter, flat_map, length}
 use Rattle.wq_io.specs.Streams.{after_known}
 use Rattle.sorted_sets.specs.Rising.{difference}
-use Rattle.rdf_term.specs.declared.triple.Triple.{Triple}
-use Rattle.rdf_term.specs.Order.{triple_cmp}
-use Rattle.entity_model.specs.declared.id.EntityId.{EntityId}
-use Rattle.entity_model.specs.declared.event.Event.{Event}
-use Rattle.entity_model.specs.declared.mapping.MappingVersion.{MappingVersion}
-use Rattle.delivery.specs.declared.Delivery.{Delivery}
-use Rattle.delivery.specs.declared.Delivery.TheVariants.{Watermark, Mapping}
+use Rattle.rdf_term.specs.{declared.triple.Triple.Triple, Order.triple_cmp}
+use Rattle.entity_model.specs.{declared.id.EntityId.EntityId, declared.event.Event.Event, declared.mapping.MappingVersion.MappingVersion}
+use Rattle.delivery.specs.{declared.Delivery.Delivery, declared.Delivery.TheVariants.Watermark, declared.Delivery.TheVariants.Mapping}
 use Rattle.replay_model.specs.Acceptance.{Arrival, arrivals, version_in_force}
-use Rattle.replay_model.specs.Play.{Played, Replies, apply, newly_due, play}
-use Rattle.replay_model.specs.Records.{Records}
-use Rattle.replay_model.specs.ReplayState.{ReplayState, due_now}
-use Rattle.replay_model.specs.Union.{union}
+use Rattle.replay_model.specs.{Play.Played, Play.Replies, Play.apply, Play.newly_due, Play.play, Records.Records}
+use Rattle.replay_model.specs.{ReplayState.ReplayState, ReplayState.due_now, Union.union}
 use Rattle.replay_model.specs.Versions.{all_by, meaning_by, with_version}
 use Rattle.triple_store.specs.declared.telling.Change.{Change}
-use Rattle.world.specs.Meaning.{meaning}
+use Rattle.fetched_pages.specs.Meaning.{meaning}
 use Rattle.world.specs.WorldState.{stale_by}
-use Rattle.text_output.specs.declared.write.Unwritten.{Unwritten}
-use Rattle.text_output.specs.Printing.{IsCutShort, Output}
-use Rattle.replica.specs.declared.record.PatchRecord.{PatchRecord}
-use Rattle.replica.specs.Head.{head_line}
-use Rattle.replica.specs.Record.{record_text}
+use Rattle.text_output.specs.{declared.write.Unwritten.Unwritten, Printing.IsCutShort, Printing.Output}
+use Rattle.replica.specs.{declared.record.PatchRecord.PatchRecord, Head.head_line, Record.record_text}
 
 -- ---- steps
 

@@ -6,7 +6,8 @@ ghost use Rattle.rdf_term.specs.{declared.triple.Triple.Triple, Order.triple_cmp
 ghost use Rattle.delivery.specs.declared.Delivery.{Delivery};
 ghost use Rattle.replay_model.specs.{Acceptance.version_in_force, Play.Replies, Play.play_to_end, Union.union};
 ghost use Rattle.triple_store.specs.declared.telling.Change.{Change};
-ghost use Rattle.world.specs.{Changing.IsChangeOf, Meaning.meaning};
+ghost use Rattle.fetched_pages.specs.Meaning.{meaning};
+ghost use Rattle.world.specs.Changing.{IsChangeOf};
 ghost use Rattle.replica.specs.{declared.record.PatchRecord.PatchRecord, Record.record_text};
 ghost use Rattle.replica.specs.Replica.{Follows, ReplicaState, numbered};
 ghost use Rattle.patch_stream.specs.Laws.{AreOfStream, CanBeRead, HasWritableSides, IsChain};

@@ -1,33 +1,21 @@
 -- What the effect of a record does to the triples of a store in which each has one owner.
 use Rattle.std.proofs.Common.{◌≡◌, ℕ, ◌+◌, ◌<◌, ◌≤◌, Bool, true, false, not, cond, ◌&&◌, ◌||◌, List, [], ◌∷◌, ◌++◌, Option, Result, Ok, Err, OnOk, filter, unwrap_or, is_some, refl, sym, ◌∙◌, ap, subst, arith, ⊎_elim, true≢false}
-use Rattle.std.specs.List.{AllByRecursion, flat_map}
+use Rattle.std.specs.{List.AllByRecursion, List.flat_map, Ordering.eq_by_cmp}
 use Rattle.std.specs.FinMap as map
-use Rattle.std.specs.Ordering.{eq_by_cmp}
-use Rattle.std.proofs.lemmas.Bool.{and_parts}
+use Rattle.std.proofs.{lemmas.Bool.and_parts, lemmas.Result.on_ok_weaker}
 use Rattle.sorted_sets.specs.Rising.{difference, has, sorted}
-use Rattle.sorted_sets.proofs.Bools.{or_true}
-use Rattle.sorted_sets.proofs.Filtering.{has-difference, has-filter}
+use Rattle.sorted_sets.proofs.{Bools.or_true, Filtering.has-difference, Filtering.has-filter}
 use Rattle.sorted_sets.proofs.Rising.{IsRising-sorted, has_itself, has-append, has-sorted, same_rising}
-use Rattle.rdf_term.specs.declared.term.Term.{Term}
-use Rattle.rdf_term.specs.declared.triple.Triple.{Triple}
-use Rattle.rdf_term.specs.Fit.{HasFitAndShortTerms}
+use Rattle.rdf_term.specs.{declared.term.Term.Term, declared.triple.Triple.Triple, Fit.HasFitAndShortTerms}
 use Rattle.rdf_term.specs.Order.{term_cmp, term_cmp-total, triple_cmp, triple_cmp-total}
 use Rattle.rdf_term.proofs.Texts.{term_cmp-IsAntisymmetric, triple_cmp-IsAntisymmetric}
-use Rattle.std.proofs.lemmas.Result.{on_ok_weaker}
-use Rattle.term_pool.specs.declared.fault.PoolFault.{PoolFault}
-use Rattle.term_pool.specs.declared.fault.PoolFault.TheVariants.{Full}
-use Rattle.term_pool.specs.Pool.{one_if}
-use Rattle.triple_store.specs.Counts.{Counts, Exchanges, count_of}
-use Rattle.triple_store.specs.Room.{distinct, room_for, terms_of}
+use Rattle.term_pool.specs.{declared.fault.PoolFault.PoolFault, declared.fault.PoolFault.TheVariants.Full, Pool.one_if}
+use Rattle.triple_store.specs.{Counts.Counts, Counts.Exchanges, Counts.count_of, Room.distinct, Room.room_for, Room.terms_of}
 use Rattle.triple_store.specs.StoreState.{StoreState, IsSound as StoreIsSound, counts_in, limit_of}
 use Rattle.triple_store.specs.Updates.{IsPatched, KeepsRest, MayCome, MayGo}
-use Rattle.triple_store.proofs.Distinct.{fewer}
-use Rattle.slot_keys.proofs.Keyed.{has_key, keys_rising}
-use Rattle.triple_store.proofs.Rooming.{terms_among}
-use Rattle.triple_store.proofs.Standing.{owned, stored_if}
-use Rattle.slot_keys.proofs.Lists.{one_of}
-use Rattle.replica.specs.declared.record.PatchRecord.{PatchRecord}
-use Rattle.replica.specs.Record.{IsSound}
+use Rattle.triple_store.proofs.{Distinct.fewer, Rooming.terms_among, Standing.owned, Standing.stored_if}
+use Rattle.slot_keys.proofs.{Keyed.has_key, Keyed.keys_rising, Lists.one_of}
+use Rattle.replica.specs.{declared.record.PatchRecord.PatchRecord, Record.IsSound}
 use Rattle.replica.specs.Replica.{AreOwnedOnce, effect, is_at_side, patched, terms_with}
 use Rattle.replica.specs.TripleLine.{HasReadableTerms}
 

@@ -1,26 +1,17 @@
 -- Lines are read in one way alone.
 use Rattle.std.proofs.Common.{◌≡◌, ℕ, suc, ◌<◌, ◌^◌, true, List, [], ◌∷◌, ◌++◌, Option, None, Some, codes, refl, sym, ◌∙◌, ap, subst, append_assoc, arith}
-use Rattle.std.specs.Fmt.{decimal}
-use Rattle.std.specs.Option.{option_to_list}
+use Rattle.std.specs.{Fmt.decimal, Option.option_to_list}
 use Rattle.std.proofs.lemmas.Fmt.{decimal_injective}
-use Rattle.rdf_term.specs.declared.term.Term.{Term}
-use Rattle.rdf_term.specs.declared.triple.Triple.{Triple}
-use Rattle.rdf_term.specs.Fit.{is_fit}
+use Rattle.rdf_term.specs.{declared.term.Term.Term, declared.triple.Triple.Triple, Fit.is_fit, Text.term_text}
 use Rattle.term_reading.specs.Reader.{read}
-use Rattle.rdf_term.specs.Text.{term_text}
 use Rattle.term_reading.proofs.ReadBack.{reads_back}
-use Rattle.replica.specs.declared.head.Head.{Head}
-use Rattle.replica.specs.declared.reader.Begun.{Begun}
-use Rattle.replica.specs.declared.record.PatchRecord.{PatchRecord}
-use Rattle.replica.specs.declared.term_end.TermState.TheVariants.{Outside}
-use Rattle.replica.specs.Head.{HasNoSpace, IsHead}
+use Rattle.replica.specs.{declared.head.Head.Head, declared.reader.Begun.Begun, declared.record.PatchRecord.PatchRecord}
+use Rattle.replica.specs.{declared.term_end.TermState.TheVariants.Outside, Head.HasNoSpace, Head.IsHead}
 use Rattle.replica.specs.Laws.{IsReadAs, ReadsOneWay, last, nothing, within}
-use Rattle.replica.specs.Reader.{Grows, TakesLine, given, left, opened, with_triple}
-use Rattle.replica.specs.TermEnd.{split_term}
+use Rattle.replica.specs.{Reader.Grows, Reader.TakesLine, Reader.given, Reader.left, Reader.opened, Reader.with_triple, TermEnd.split_term}
 use Rattle.replica.specs.TripleLine.{IsTripleLine}
 use Rattle.replica.proofs.Heads.{line_words, no_space_in_decimal, no_space_in_mark, no_space_in_name, no_space_in_sign}
-use Rattle.replica.proofs.TermEnds.{term_ends}
-use Rattle.replica.proofs.TripleLines.{joined, line_joins}
+use Rattle.replica.proofs.{TermEnds.term_ends, TripleLines.joined, TripleLines.line_joins}
 
 -- ---- heads
 

@@ -1,11 +1,9 @@
 -- What follows where a record is received, and where one is applied.
 use Rattle.std.proofs.Common.{◌≡◌, ℕ, zero, suc, ◌+◌, ◌^◌, ◌<◌, ◌≤◌, ◌==◌, Bool, true, false, cond, ◌||◌, nat_le, is_some, is_eq, List, [], ◌∷◌, ◌++◌, Option, None, Some, IsSome, MatchOption, refl, sym, ◌∙◌, ap, subst, arith}
-use Rattle.std.specs.Ordering.{nat_cmp}
-use Rattle.std.specs.BTreeMap.{is_at}
+use Rattle.std.specs.{Ordering.nat_cmp, BTreeMap.is_at}
 use Rattle.std.proofs.lemmas.Bool.Decides.{nat_tests}
 use Rattle.sorted_sets.proofs.Bools.{or_false_left, or_false_right}
-use Rattle.replica.specs.declared.record.PatchRecord.{PatchRecord}
-use Rattle.replica.specs.Record.{IsSound}
+use Rattle.replica.specs.{declared.record.PatchRecord.PatchRecord, Record.IsSound}
 use Rattle.replica.specs.Replica.{Follows, HasNoRoomForNext, IsWaiting, ReplicaState, after, is_known, numbered, patched_if, terms_with, waiting_at}
 
 -- ---- the first record with a number

@@ -1,14 +1,10 @@
 -- The words of a head's line.
 use Rattle.std.proofs.Common.{◌≡◌, ◌≢◌, ℕ, zero, suc, ◌<◌, ◌^◌, List, [], ◌∷◌, ◌++◌, sym, ◌∙◌, subst, append_assoc, arith, codes}
-use Rattle.std.specs.Fmt.{decimal}
-use Rattle.std.specs.Str.{IsAscii, IsUtf8}
-use Rattle.std.proofs.lemmas.Fmt.{IsAscii-decimal, digits_decimal}
-use Rattle.std.proofs.lemmas.Str.{IsAscii-append, IsUtf8-from_ascii}
-use Rattle.std.proofs.lemmas.Str.Ascii.{IsAscii-nil, IsAscii-cons}
-use Rattle.std.proofs.lemmas.Str.Parse.{digit_at}
+use Rattle.std.specs.{Fmt.decimal, Str.IsAscii, Str.IsUtf8}
+use Rattle.std.proofs.{lemmas.Fmt.IsAscii-decimal, lemmas.Fmt.digits_decimal, lemmas.Str.IsAscii-append, lemmas.Str.IsUtf8-from_ascii}
+use Rattle.std.proofs.{lemmas.Str.Ascii.IsAscii-nil, lemmas.Str.Ascii.IsAscii-cons, lemmas.Str.Parse.digit_at}
 use Rattle.digits.proofs.Decimals.{decimal_numerals}
-use Rattle.replica.specs.declared.head.Head.{Head}
-use Rattle.replica.specs.Head.{HasNoSpace, IsHead, head_line}
+use Rattle.replica.specs.{declared.head.Head.Head, Head.HasNoSpace, Head.IsHead, Head.head_line}
 
 -- the words with the spaces between them
 pub line_words : (head : Head) →

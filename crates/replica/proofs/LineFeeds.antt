@@ -1,12 +1,7 @@
 -- The lines of records have no line feed, so their texts split into them.
 use Rattle.std.proofs.Common.{◌≡◌, ◌≢◌, refl, sym, subst, ◌∙◌, ap, ℕ, suc, ◌<◌, ◌^◌, ◌==◌, Bool, true, false, if◌then◌else◌, List, [], ◌∷◌, ◌++◌, length, map, flat_map, codes, slice_index, Option, None, Some, append_assoc, arith, true≢false}
-use Rattle.std.specs.Char.{is_ascii_alphanumeric}
-use Rattle.std.specs.Fmt.{decimal}
-use Rattle.std.specs.List.{AllByRecursion, list_all}
-use Rattle.std.specs.Option.{option_map_or}
-use Rattle.std.proofs.lemmas.Bool.{and_parts, ne_eqb}
-use Rattle.std.proofs.lemmas.Fmt.{digits_decimal}
-use Rattle.std.proofs.lemmas.Grind.{flat_map-append}
+use Rattle.std.specs.{Char.is_ascii_alphanumeric, Fmt.decimal, List.AllByRecursion, List.list_all, Option.option_map_or}
+use Rattle.std.proofs.{lemmas.Bool.and_parts, lemmas.Bool.ne_eqb, lemmas.Fmt.digits_decimal, lemmas.Grind.flat_map-append}
 use Rattle.std.proofs.lemmas.Str.Parse.{digit_at}
 use Rattle.digits.proofs.Decimals.{decimal_numerals}
 use Rattle.sorted_sets.specs.Rising.{Each}
@@ -16,17 +11,12 @@ use Rattle.rdf_term.specs.declared.tag.TagState.{TagState}
 use Rattle.rdf_term.specs.declared.tag.TagState.TheVariants.{Start, First, Dash, Later}
 use Rattle.rdf_term.specs.declared.term.Term.{Term}
 use Rattle.rdf_term.specs.declared.term.Term.TheVariants.{Iri, Blank, Plain, Lang, Typed}
-use Rattle.rdf_term.specs.declared.triple.Triple.{Triple}
-use Rattle.rdf_term.specs.Fit.{is_fit}
-use Rattle.rdf_term.specs.Grammar.{is_iri, is_iri_char, is_word}
+use Rattle.rdf_term.specs.{declared.triple.Triple.Triple, Fit.is_fit, Grammar.is_iri, Grammar.is_iri_char, Grammar.is_word}
 use Rattle.rdf_term.specs.TagReader.{is_rest_of_tag, tag_state_after}
 use Rattle.rdf_term.specs.Text.{escaped, escaped_byte, in_brackets, quoted, term_text}
 use Rattle.rdf_term.proofs.Tags.{is_tag_read}
-use Rattle.replica.specs.declared.record.PatchRecord.{PatchRecord}
-use Rattle.replica.specs.Head.{head_line}
-use Rattle.replica.specs.Laws.{HasShortNumbers, SplitsIntoLines}
-use Rattle.replica.specs.Record.{head_of, record_lines, record_text}
-use Rattle.replica.specs.TripleLine.{HasReadableTerms, triple_line}
+use Rattle.replica.specs.{declared.record.PatchRecord.PatchRecord, Head.head_line, Laws.HasShortNumbers, Laws.SplitsIntoLines}
+use Rattle.replica.specs.{Record.head_of, Record.record_lines, Record.record_text, TripleLine.HasReadableTerms, TripleLine.triple_line}
 use Rattle.replica.proofs.TripleLines.{line_joins}
 
 -- ---- bytes

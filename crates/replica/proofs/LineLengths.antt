@@ -1,21 +1,13 @@
 -- How long the lines of a record are.
 use Rattle.std.proofs.Common.{◌≡◌, ℕ, ◌≤◌, List, [], ◌∷◌, ◌++◌, length, map, codes, Option, None, Some, IfSome, refl, sym, ap, subst, append_assoc, arith, length-append, flat_map}
-use Rattle.std.specs.Fmt.{decimal}
-use Rattle.std.specs.List.{AllByRecursion}
+use Rattle.std.specs.{Fmt.decimal, List.AllByRecursion}
 use Rattle.digits.proofs.Decimals.{decimal_short}
 use Rattle.sorted_sets.specs.Rising.{Each}
-use Rattle.rdf_term.specs.declared.triple.Triple.{Triple}
-use Rattle.rdf_term.specs.Text.{term_text}
-use Rattle.replica.specs.declared.head.Head.{Head}
-use Rattle.replica.specs.declared.reader.Begun.{Begun}
-use Rattle.replica.specs.declared.record.PatchRecord.{PatchRecord}
-use Rattle.replica.specs.Head.{head_line}
-use Rattle.replica.specs.Laws.{HasShortNumbers}
-use Rattle.replica.specs.Reader.{IsUnfinished, lines_read}
-use Rattle.replica.specs.Record.{head_of, record_lines}
+use Rattle.rdf_term.specs.{declared.triple.Triple.Triple, Text.term_text}
+use Rattle.replica.specs.{declared.head.Head.Head, declared.reader.Begun.Begun, declared.record.PatchRecord.PatchRecord, Head.head_line}
+use Rattle.replica.specs.{Laws.HasShortNumbers, Reader.IsUnfinished, Reader.lines_read, Record.head_of, Record.record_lines}
 use Rattle.replica.specs.TripleLine.{HasReadableTerms, triple_line}
-use Rattle.replica.proofs.Heads.{line_words}
-use Rattle.replica.proofs.TripleLines.{line_joins}
+use Rattle.replica.proofs.{Heads.line_words, TripleLines.line_joins}
 
 -- a line is shorter than three terms of 32 MiB with what stands between them, and than 128 MiB
 abbrev pub IsShort : List ℕ → Type 0

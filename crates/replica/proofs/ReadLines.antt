@@ -3,13 +3,9 @@ use Rattle.std.proofs.Common.{◌≡◌, ℕ, ◌<◌, ◌≤◌, ◌==◌, Bool
 use Rattle.std.specs.List.{AllByRecursion}
 use Rattle.std.proofs.lemmas.Bool.Decides.{nat_tests}
 use Rattle.sorted_sets.specs.Rising.{IsRising, has}
-use Rattle.sorted_sets.proofs.Bools.{and_none, or_true}
-use Rattle.sorted_sets.proofs.Rising.{has-append, has_itself}
-use Rattle.rdf_term.specs.declared.triple.Triple.{Triple}
-use Rattle.rdf_term.specs.Order.{triple_cmp, triple_cmp-total}
-use Rattle.replica.specs.Head.{head_line}
-use Rattle.replica.specs.TripleLine.{HasReadableTerms, triple_line}
-use Rattle.replica.specs.declared.reader.Begun.{Begun}
+use Rattle.sorted_sets.proofs.{Bools.and_none, Bools.or_true, Rising.has-append, Rising.has_itself}
+use Rattle.rdf_term.specs.{declared.triple.Triple.Triple, Order.triple_cmp, Order.triple_cmp-total}
+use Rattle.replica.specs.{Head.head_line, TripleLine.HasReadableTerms, TripleLine.triple_line, declared.reader.Begun.Begun}
 use Rattle.replica.specs.declared.record.PatchRecord.{PatchRecord}
 use Rattle.replica.specs.Laws.{HasShortNumbers, IsReadAs, ReadsRecords, ReadsTheirLines, nothing, within, last}
 use Rattle.replica.specs.Reader.{Grows, IsPart, IsUnfinished, TakesLine, given, may_come_next, is_adding, is_next, all_read, left, lines_read, opened, patch_read, with_triple}

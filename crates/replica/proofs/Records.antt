@@ -1,24 +1,13 @@
 -- What is read of a record as it grows, and the texts of records.
 use Rattle.std.proofs.Common.{◌≡◌, ℕ, zero, suc, ◌+◌, ◌-◌, ◌<◌, ◌≤◌, Bool, true, false, not, cond, ◌&&◌, ◌||◌, ◌==◌, nat_lt, List, [], ◌∷◌, ◌++◌, length, map, flat_map, Option, Some, None, IfSome, MatchOption, Result, Ok, Err, Ordering, Less, Equal, Greater, is_lt, refl, sym, ◌∙◌, ap, subst, arith, append_assoc, append-nil, length-append, true≢false}
-use Rattle.std.specs.List.{AllByRecursion, slice_get}
-use Rattle.std.specs.Ordering.{eq_by_cmp}
-use Rattle.std.proofs.lemmas.Bool.{and_parts}
-use Rattle.std.proofs.lemmas.Bool.Decides.{nat_tests}
-use Rattle.std.proofs.lemmas.List.{map-append}
-use Rattle.std.proofs.lemmas.Grind.{flat_map-append}
+use Rattle.std.specs.{List.AllByRecursion, List.slice_get, Ordering.eq_by_cmp}
+use Rattle.std.proofs.{lemmas.Bool.and_parts, lemmas.Bool.Decides.nat_tests, lemmas.List.map-append, lemmas.Grind.flat_map-append}
 use Rattle.sorted_sets.specs.Rising.{IsRising, has}
-use Rattle.sorted_sets.proofs.Bools.{equal}
-use Rattle.sorted_sets.proofs.Rising.{Above-weaken, has-append}
+use Rattle.sorted_sets.proofs.{Bools.equal, Rising.Above-weaken, Rising.has-append}
 use Rattle.base.specs.declared.memory.OutOfMemory.{OutOfMemory}
-use Rattle.rdf_term.specs.declared.triple.Triple.{Triple}
-use Rattle.rdf_term.specs.Append.{Appends}
-use Rattle.rdf_term.specs.Order.{triple_cmp, triple_cmp-total}
-use Rattle.rdf_term.specs.Text.{triple_text}
-use Rattle.rdf_term.proofs.Appending.{still_front}
-use Rattle.rdf_term.proofs.Texts.{triple_cmp-IsAntisymmetric}
-use Rattle.replica.specs.declared.head.Head.{Head}
-use Rattle.replica.specs.declared.reader.Begun.{Begun}
-use Rattle.replica.specs.declared.record.PatchRecord.{PatchRecord}
+use Rattle.rdf_term.specs.{declared.triple.Triple.Triple, Append.Appends, Order.triple_cmp, Order.triple_cmp-total, Text.triple_text}
+use Rattle.rdf_term.proofs.{Appending.still_front, Texts.triple_cmp-IsAntisymmetric}
+use Rattle.replica.specs.{declared.head.Head.Head, declared.reader.Begun.Begun, declared.record.PatchRecord.PatchRecord}
 use Rattle.replica.specs.Head.{IsHead, head_line}
 use Rattle.replica.specs.Record.{IsSound, head_of, lines_with, record_lines, record_text}
 use Rattle.replica.specs.Reader.{Grows, IsPart, IsUnfinished, given, may_come_next, is_adding, is_next, all_read, left, lines_read, opened, patch_read, with_triple}

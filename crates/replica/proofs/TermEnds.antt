@@ -1,10 +1,7 @@
 -- A term's canonical text ends at the first space outside quotes.
 use Rattle.std.proofs.Common.{◌≡◌, ℕ, suc, ◌+◌, ◌-◌, ◌<◌, ◌≤◌, ◌==◌, Bool, true, false, List, [], ◌∷◌, ◌++◌, Option, None, Some, MatchOption, IfSome, refl, sym, ◌∙◌, ap, ⊎_elim, append_assoc, append-nil, subst, true≢false, arith, length, take, drop, get_or, length-drop}
-use Rattle.std.specs.Char.{is_ascii_alphanumeric}
-use Rattle.std.specs.List.{list_all}
-use Rattle.std.specs.Option.{option_map, option_map_or}
-use Rattle.std.proofs.Math.Seq.{drop-cons}
-use Rattle.std.proofs.lemmas.List.{drop_all, take_all, take_more}
+use Rattle.std.specs.{Char.is_ascii_alphanumeric, List.list_all, Option.option_map, Option.option_map_or}
+use Rattle.std.proofs.{Math.Seq.drop-cons, lemmas.List.drop_all, lemmas.List.take_all, lemmas.List.take_more}
 use Rattle.std.proofs.lemmas.Bool.{and_parts, cases_eq, ne_eqb}
 use denote.Ref.{Bor}
 use Rattle.sorted_sets.specs.Rising.{Each}
@@ -12,13 +9,10 @@ use Rattle.rdf_term.specs.declared.term.Term.{Term}
 use Rattle.rdf_term.specs.declared.term.Term.TheVariants.{Iri, Blank, Plain, Lang, Typed}
 use Rattle.rdf_term.specs.declared.tag.TagState.{TagState}
 use Rattle.rdf_term.specs.declared.tag.TagState.TheVariants.{Start, First, Dash, Later}
-use Rattle.rdf_term.specs.Fit.{is_fit}
-use Rattle.rdf_term.specs.Grammar.{is_iri, is_iri_char, is_tag, is_word}
+use Rattle.rdf_term.specs.{Fit.is_fit, Grammar.is_iri, Grammar.is_iri_char, Grammar.is_tag, Grammar.is_word}
+use Rattle.rdf_term.specs.{TagReader.is_rest_of_tag, TagReader.tag_state_after, Text.escaped, Text.in_brackets, Text.quoted, Text.term_text}
 use Rattle.term_reading.specs.Reader.{with_front}
-use Rattle.rdf_term.specs.TagReader.{is_rest_of_tag, tag_state_after}
-use Rattle.rdf_term.specs.Text.{escaped, in_brackets, quoted, term_text}
-use Rattle.rdf_term.proofs.Escapes.{kind}
-use Rattle.rdf_term.proofs.Tags.{is_tag_read}
+use Rattle.rdf_term.proofs.{Escapes.kind, Tags.is_tag_read}
 use Rattle.replica.specs.declared.term_end.TermState.{TermState}
 use Rattle.replica.specs.declared.term_end.TermState.TheVariants.{Outside, Quoted, Escaped}
 use Rattle.replica.specs.TermEnd.{next_state, term_state_after, split_on, split_term}

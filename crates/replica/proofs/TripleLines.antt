@@ -1,7 +1,6 @@
 -- The parts of a triple's line.
 use Rattle.std.proofs.Common.{◌≡◌, ◌↔◌, ℕ, List, [], ◌∷◌, ◌++◌, Option, Some, sym, ◌∙◌, ap, append_assoc}
-use Rattle.rdf_term.specs.declared.triple.Triple.{Triple}
-use Rattle.rdf_term.specs.Text.{spaced, term_text, triple_text}
+use Rattle.rdf_term.specs.{declared.triple.Triple.Triple, Text.spaced, Text.term_text, Text.triple_text}
 use Rattle.replica.specs.TripleLine.{AreTermTexts, IsTripleLine, triple_line}
 
 -- three texts with the spaces and the full stop of a line

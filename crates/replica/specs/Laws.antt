@@ -2,12 +2,9 @@
 use Rattle.std.specs.Prelude.{◌≡◌, ℕ, ◌+◌, ◌-◌, ◌<◌, ◌≤◌, ◌^◌, length, false, List, [], ◌∷◌, ◌++◌, Option, None, Some, IsSome, is_some, flat_map}
 use Rattle.std.specs.List.{AllByRecursion}
 use Rattle.sorted_sets.specs.Rising.{IsRising, difference}
-use Rattle.rdf_term.specs.declared.triple.Triple.{Triple}
-use Rattle.rdf_term.specs.Order.{triple_cmp}
+use Rattle.rdf_term.specs.{declared.triple.Triple.Triple, Order.triple_cmp}
 use Rattle.wq_io.specs.Lines.{lines}
-use Rattle.replica.specs.declared.reader.Begun.{Begun}
-use Rattle.replica.specs.declared.record.PatchRecord.{PatchRecord}
-use Rattle.replica.specs.Reader.{TakesLine, lines_read}
+use Rattle.replica.specs.{declared.reader.Begun.Begun, declared.record.PatchRecord.PatchRecord, Reader.TakesLine, Reader.lines_read}
 use Rattle.replica.specs.Record.{IsSound, record_lines, record_text}
 use Rattle.replica.specs.Replica.{Follows, ReplicaState, after, numbered}
 

@@ -1,18 +1,12 @@
 -- What a reader of records gives and refuses, line by line.
 use Rattle.std.specs.Prelude.{◌≡◌, ◌≢◌, ℕ, ◌≤◌, Bool, true, false, not, ◌&&◌, ◌==◌, nat_lt, if◌then◌else◌, List, [], ◌∷◌, ◌++◌, length, Option, None, Some, MatchOption, ⊤}
-use Rattle.std.specs.List.{AllByRecursion}
-use Rattle.std.specs.Ordering.{is_lt}
+use Rattle.std.specs.{List.AllByRecursion, Ordering.is_lt}
 use Rattle.sorted_sets.specs.Rising.{IsRising, has}
-use Rattle.rdf_term.specs.declared.triple.Triple.{Triple}
-use Rattle.rdf_term.specs.Order.{triple_cmp}
-use Rattle.replica.specs.declared.head.Head.{Head}
-use Rattle.replica.specs.declared.record.PatchRecord.{PatchRecord}
-use Rattle.replica.specs.declared.reader.Begun.{Begun}
+use Rattle.rdf_term.specs.{declared.triple.Triple.Triple, Order.triple_cmp}
+use Rattle.replica.specs.{declared.head.Head.Head, declared.record.PatchRecord.PatchRecord, declared.reader.Begun.Begun}
 use Rattle.replica.specs.declared.reader.PatchFault.{PatchFault}
 use Rattle.replica.specs.declared.reader.PatchFault.TheVariants.{Head as NoHead, Triple as NoTriple, Order as OutOfOrder, OutOfMemory}
-use Rattle.replica.specs.Head.{IsHead, head_line}
-use Rattle.replica.specs.Record.{lines_with}
-use Rattle.replica.specs.TripleLine.{HasReadableTerms, IsTripleLine}
+use Rattle.replica.specs.{Head.IsHead, Head.head_line, Record.lines_with, TripleLine.HasReadableTerms, TripleLine.IsTripleLine}
 
 -- the lines that were read of a record
 abbrev pub lines_read : Option Begun → List (List ℕ)

@@ -3,12 +3,9 @@ use Rattle.std.specs.Prelude.{◌≡◌, ℕ, ◌<◌, true, false, List, ◌∷
 use Rattle.std.specs.Prelude.{map as mapped}
 use Rattle.std.specs.List.{AllByRecursion}
 use Rattle.sorted_sets.specs.Rising.{IsRising, has}
-use Rattle.rdf_term.specs.declared.triple.Triple.{Triple}
-use Rattle.rdf_term.specs.Order.{triple_cmp}
+use Rattle.rdf_term.specs.{declared.triple.Triple.Triple, Order.triple_cmp}
 use Rattle.wq_io.specs.Lines.{ended_lines}
-use Rattle.replica.specs.declared.head.Head.{Head}
-use Rattle.replica.specs.declared.record.PatchRecord.{PatchRecord}
-use Rattle.replica.specs.Head.{head_line}
+use Rattle.replica.specs.{declared.head.Head.Head, declared.record.PatchRecord.PatchRecord, Head.head_line}
 use Rattle.replica.specs.TripleLine.{HasReadableTerms, triple_line}
 
 -- what the first line says

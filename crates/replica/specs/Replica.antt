@@ -1,19 +1,13 @@
 -- What a replica of a producer's triples has after the records that it received.
 use Rattle.std.specs.Prelude.{◌≡◌, ℕ, zero, suc, ◌+◌, ◌<◌, ◌≤◌, ◌^◌, ◌==◌, Bool, true, false, not, cond, ◌||◌, nat_le, is_some, List, [], ◌∷◌, ◌++◌, filter, Option, None, Some, IsSome, if◌then◌else◌}
-use Rattle.std.specs.Ordering.{nat_cmp}
-use Rattle.std.specs.List.{flat_map}
-use Rattle.std.specs.Map.{lookup}
-use Rattle.std.specs.BTreeMap.{is_at}
+use Rattle.std.specs.{Ordering.nat_cmp, List.flat_map, Map.lookup, BTreeMap.is_at}
 use Rattle.std.specs.FinMap as map
 use Rattle.sorted_sets.specs.Rising.{difference, has, sorted}
-use Rattle.rdf_term.specs.declared.triple.Triple.{Triple}
-use Rattle.rdf_term.specs.Order.{triple_cmp}
+use Rattle.rdf_term.specs.{declared.triple.Triple.Triple, Order.triple_cmp}
 use Rattle.triple_patch.specs.declared.changes.Patch.{Patch}
-use Rattle.triple_store.specs.Counts.{Counts, count_of}
-use Rattle.triple_store.specs.Room.{distinct, terms_of}
+use Rattle.triple_store.specs.{Counts.Counts, Counts.count_of, Room.distinct, Room.terms_of}
 use Rattle.term_pool.specs.Pool.{one_if}
-use Rattle.replica.specs.declared.record.PatchRecord.{PatchRecord}
-use Rattle.replica.specs.Record.{IsSound}
+use Rattle.replica.specs.{declared.record.PatchRecord.PatchRecord, Record.IsSound}
 
 -- the first of the records that has the number
 abbrev pub numbered : ℕ → List PatchRecord → Option PatchRecord

@@ -1,10 +1,7 @@
 -- The line that a triple has in a record.
 use Rattle.std.specs.Prelude.{◌≡◌, ℕ, List, [], ◌∷◌, ◌++◌}
 use Rattle.std.specs.Str.{IsUtf8}
-use Rattle.rdf_term.specs.declared.term.Term.{Term}
-use Rattle.rdf_term.specs.declared.triple.Triple.{Triple}
-use Rattle.rdf_term.specs.Fit.{IsFitAndShort}
-use Rattle.rdf_term.specs.Text.{term_text}
+use Rattle.rdf_term.specs.{declared.term.Term.Term, declared.triple.Triple.Triple, Fit.IsFitAndShort, Text.term_text}
 
 -- the term is fit and short, and its canonical text is UTF-8, as that of each term in memory is
 pub record IsReadable (term : Term) : Type 0 where

@@ -1,6 +1,6 @@
 // What a record changes of stored triples.
 
-ghost use Rattle.std.specs.Prelude.{◌≡◌, ◌<◌, ◌≤◌, filter, is_some, Err, IfOk, IfSome, MatchOption, OnErr, OnOk, Some};
+ghost use Rattle.std.specs.Prelude.{◌≡◌, ◌<◌, ◌≤◌, filter, is_some, Err, IfOk, IfSome, IsOk, MatchOption, None, OnErr, OnOk, Some};
 ghost use Rattle.std.specs.FinMap as map;
 ghost use Rattle.sorted_sets.specs.Rising.{IsRising, has};
 ghost use Rattle.rdf_term.specs.Order.{triple_cmp};
@@ -31,6 +31,7 @@ pub fn apply_waiting(
     ensures full { result ≡ Err StoreFault.Full → MatchOption (waiting_at waiting.now.entries number) ⊥ (λ item. limit_of store.old < terms_with (map.keys (counts_in store.old)) item.adds) }
     ensures within { OnOk result (IfSome (waiting_at waiting.now.entries number) (λ item. terms_with (map.keys (counts_in store.old)) item.adds ≤ limit_of store.old)) }
     ensures limit { limit_of store.new ≡ limit_of store.old }
+    ensures free { waiting_at waiting.now.entries number ≡ None → IsOk result }
 {
     match waiting.get(&number) {
         Some(item) => match apply(alloc, store, item) {

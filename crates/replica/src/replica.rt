@@ -1,6 +1,6 @@
 // A replica of a producer's triples.
 
-ghost use Rattle.std.specs.Prelude.{◌≡◌, ◌↔◌, ◌+◌, ◌<◌, ◌≤◌, ◌++◌, ◌∷◌, [], ℕ, List, cond, false, Err, IfOk, IsSome, OnErr, OnOk, is_some, Some, ◌^◌};
+ghost use Rattle.std.specs.Prelude.{◌≡◌, ◌↔◌, ◌+◌, ◌<◌, ◌≤◌, ◌++◌, ◌∷◌, [], ℕ, List, cond, true, false, Err, IfOk, IsOk, IsSome, OnErr, OnOk, is_some, None, Some, ◌^◌};
 ghost use Rattle.std.specs.{BTreeMap.is_at, Ordering.nat_cmp};
 ghost use Rattle.replica.specs.declared.record.PatchRecord.{PatchRecord as TheRecord};
 ghost use Rattle.replica.specs.declared.replica.Received.TheVariants.{Fresh as IsFresh, Repeat as IsRepeat};
@@ -66,7 +66,7 @@ impl Replica {
         })
     }
 
-    /// Keeps the record until it is its turn. After `OutOfMemory` nothing has changed.
+    /// Keeps the record until it is its turn. After `OutOfMemory` nothing has changed; a record whose number is known takes no memory.
     pub fn receive(&mut self, item: PatchRecord) -> Result<Received, OutOfMemory>
         requires { IsSound item }
 
@@ -76,6 +76,7 @@ impl Replica {
         ensures repeat { IfOk result (λ received. received ≡ IsRepeat → self.new ≡ self.old) }
         ensures others { self.new ≡ record self.old { waiting = self.new.waiting } }
         ensures err { OnErr result (self.new ≡ self.old) }
+        ensures free { is_known self.old item.number ≡ true → IsOk result }
     {
         if self.is_known(item.number) {
             Ok(Received::Repeat)
@@ -109,7 +110,8 @@ impl Replica {
     /// Applies the next record, if it was received, and says whether it was.
     ///
     /// # Errors
-    /// There are more distinct terms than the limit says, or memory was refused. Nothing has changed then.
+    /// There are more distinct terms than the limit says, or memory was refused. Nothing has changed then. Where the next record doesn't wait,
+    /// no memory is taken.
     pub fn advance(&mut self) -> Result<bool, StoreFault>
         // It answers false exactly if the next record wasn't received.
         ensures answer { IfOk result (λ moved. (items : List TheRecord) → Follows items self.old → moved ≡ is_some (numbered (self.old.applied + 1) items)) }
@@ -120,6 +122,7 @@ impl Replica {
         ensures limit { self.new.limit ≡ self.old.limit }
         ensures small { self.new.applied < 2 ^ 64 }
         ensures err { OnErr result (self.new ≡ self.old) }
+        ensures free { waiting_at self.old.waiting (self.old.applied + 1) ≡ None → IsOk result }
     {
         if self.applied == u64::MAX {
             return Ok(false);

@@ -3,8 +3,7 @@
 ghost use Rattle.std.specs.Prelude.{◌≡◌, ◌∷◌, ◌++◌, List, ℕ, IfSome, MatchOption, true};
 ghost use Rattle.std.specs.Option.{option_map};
 ghost use Rattle.rdf_term.specs.{declared.term.Term.Term, Fit.is_fit, Text.term_text};
-ghost use Rattle.replica.specs.declared.term_end.TermState.TheVariants.{Outside};
-ghost use Rattle.replica.specs.TermEnd.{next_state, term_state_after, split_term};
+ghost use Rattle.replica.specs.{declared.term_end.TermState.TheVariants.Outside, TermEnd.next_state, TermEnd.term_state_after, TermEnd.split_term};
 
 // Where a byte of a line stands.
 #[derive(Clone, Copy, Drop)]

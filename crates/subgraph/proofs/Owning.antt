@@ -1,20 +1,15 @@
 -- The triples of the values of a map together, and how many values have each.
 use Rattle.std.proofs.Common.{◌≡◌, ◌≢◌, ◌⊎◌, inl, inr, ℕ, ◌+◌, ◌<◌, ◌≤◌, Bool, true, false, cond, ◌||◌, T, List, [], ◌∷◌, Option, None, Some, Ordering, Less, Equal, Greater, is_eq, is_lt, nat_lt, sum_by, count_by, flat_map, refl, sym, ◌∙◌, ap, subst, true≢false, lt-ltb, ⊎_elim, arith}
 use Rattle.std.specs.FinMap as map
-use Rattle.std.specs.FinMap.{IsAntisymmetric, find, put, is_sorted}
-use Rattle.std.specs.FinMap.Entries.{below_all, by_order}
-use Rattle.std.specs.Cmp.{IsTotalOrder, eq_by_cmp_equiv}
-use Rattle.std.specs.Ordering.{eq_by_cmp, ordering_reverse}
+use Rattle.std.specs.{FinMap.IsAntisymmetric, FinMap.find, FinMap.put, FinMap.is_sorted, FinMap.Entries.below_all, FinMap.Entries.by_order}
+use Rattle.std.specs.{Cmp.IsTotalOrder, Cmp.eq_by_cmp_equiv, Ordering.eq_by_cmp, Ordering.ordering_reverse}
 use Rattle.std.proofs.lemmas.List.Sums.{count_by-le-length, sum_by-cons}
 use Rattle.sorted_sets.specs.Rising.{In, has, sorted}
-use Rattle.sorted_sets.proofs.Bools.{equal}
-use Rattle.sorted_sets.proofs.Keys.{and_first, and_second, less}
+use Rattle.sorted_sets.proofs.{Bools.equal, Keys.and_first, Keys.and_second, Keys.less}
 use Rattle.sorted_sets.proofs.Rising.{IsRising-sorted, has-append, has-sorted, same_rising}
-use Rattle.rdf_term.specs.declared.triple.Triple.{Triple}
-use Rattle.rdf_term.specs.Order.{triple_cmp, triple_cmp-total}
+use Rattle.rdf_term.specs.{declared.triple.Triple.Triple, Order.triple_cmp, Order.triple_cmp-total}
 use Rattle.rdf_term.proofs.Texts.{triple_cmp-IsAntisymmetric}
-use Rattle.entity_model.specs.declared.id.EntityId.{EntityId}
-use Rattle.entity_model.specs.EntityId.{entity_cmp, entity_cmp_total, entity_cmp_same}
+use Rattle.entity_model.specs.{declared.id.EntityId.EntityId, EntityId.entity_cmp, EntityId.entity_cmp_total, EntityId.entity_cmp_same}
 
 -- two ids are one, or they aren't, as the test says
 pub id_tells : (y x : EntityId) → ((eq_by_cmp entity_cmp y x ≡ true) × (y ≡ x)) ⊎ ((eq_by_cmp entity_cmp y x ≡ false) × (y ≢ x))

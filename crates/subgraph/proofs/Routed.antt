@@ -1,26 +1,19 @@
 -- The graphs to which records are routed.
 use Rattle.std.proofs.Common.{◌≡◌, ℕ, ◌<◌, ◌≤◌, ◌==◌, Bool, true, false, cond, List, [], ◌∷◌, ◌++◌, Option, None, Some, is_some, unwrap_or, refl, sym, ◌∙◌, ap, true≢false, ⊎_elim}
 use Rattle.std.specs.FinMap as map
-use Rattle.std.specs.List.{flat_map}
-use Rattle.std.specs.Ordering.{eq_by_cmp}
+use Rattle.std.specs.{List.flat_map, Ordering.eq_by_cmp}
 use Rattle.std.proofs.lemmas.Bool.Decides.{eqb_tells}
 use Rattle.sorted_sets.specs.Rising.{has}
-use Rattle.sorted_sets.proofs.Bools.{or_true}
-use Rattle.sorted_sets.proofs.Rising.{has-append, has_itself}
-use Rattle.rdf_term.specs.declared.term.Term.{Term}
-use Rattle.rdf_term.specs.declared.triple.Triple.{Triple}
+use Rattle.sorted_sets.proofs.{Bools.or_true, Rising.has-append, Rising.has_itself}
+use Rattle.rdf_term.specs.{declared.term.Term.Term, declared.triple.Triple.Triple}
 use Rattle.rdf_term.specs.Order.{term_cmp, term_cmp-total, triple_cmp, triple_cmp-total}
 use Rattle.rdf_term.proofs.Texts.{term_cmp-IsAntisymmetric}
 use Rattle.entity_model.specs.declared.id.EntityId.{EntityId}
-use Rattle.entity_state.specs.declared.record.Held.{Held}
-use Rattle.entity_state.specs.declared.record.Record.{Record}
-use Rattle.entity_state.specs.Record.{blank}
+use Rattle.entity_state.specs.{declared.record.Held.Held, declared.record.Record.Record, Record.blank}
 use Rattle.triple_store.specs.Room.{distinct, terms_of}
-use Rattle.triple_store.proofs.Distinct.{fewer}
-use Rattle.triple_store.proofs.Rooming.{terms_among}
+use Rattle.triple_store.proofs.{Distinct.fewer, Rooming.terms_among}
 use Rattle.slot_keys.proofs.Lists.{one_of, or_left}
-use Rattle.replay_model.specs.Records.{Bytes, Records, record_of}
-use Rattle.replay_model.specs.Union.{Meaning, triples_held, union}
+use Rattle.replay_model.specs.{Records.Bytes, Records.Records, Records.record_of, Union.Meaning, Union.triples_held, Union.union}
 use Rattle.subgraph.specs.Entries.{Entry, graph_triples, triples_in}
 use Rattle.subgraph.specs.Laws.{GraphsAreTheUnion, GraphsFollowTheRecords, GraphsNeedNoMoreRoom, Routing, entry_held, routed_union, triples_routed}
 use Rattle.subgraph.specs.Split.{entry}

@@ -2,29 +2,18 @@
 use Rattle.std.proofs.Common.{◌≡◌, ◌⊎◌, inl, inr, ◌+◌, ◌<◌, Bool, true, false, cond, List, [], ◌∷◌, Option, None, Some, option_map, refl, sym, ◌∙◌, ap, subst, true≢false, ⊎_elim, arith}
 use Rattle.std.specs.Prelude.{map as mapped}
 use Rattle.std.specs.FinMap as map
-use Rattle.std.specs.FinMap.{find}
-use Rattle.std.specs.Cmp.{eq_by_cmp_equiv}
-use Rattle.std.specs.Ordering.{eq_by_cmp}
-use Rattle.sorted_sets.specs.Counting.{one_if}
-use Rattle.sorted_sets.specs.Rising.{has, sorted}
+use Rattle.std.specs.{FinMap.find, Cmp.eq_by_cmp_equiv, Ordering.eq_by_cmp}
+use Rattle.sorted_sets.specs.{Counting.one_if, Rising.has, Rising.sorted}
 use Rattle.sorted_sets.proofs.Rising.{IsRising-sorted, has-sorted, sorted_rising, sorted_same}
-use Rattle.rdf_term.specs.declared.triple.Triple.{Triple}
-use Rattle.rdf_term.specs.Order.{triple_cmp, triple_cmp-total}
+use Rattle.rdf_term.specs.{declared.triple.Triple.Triple, Order.triple_cmp, Order.triple_cmp-total}
 use Rattle.rdf_term.proofs.Texts.{triple_cmp-IsAntisymmetric}
-use Rattle.entity_model.specs.declared.id.EntityId.{EntityId}
-use Rattle.entity_model.specs.EntityId.{entity_cmp, entity_cmp_total, entity_cmp_same}
-use Rattle.slot_keys.specs.declared.key.Key.{Key}
-use Rattle.slot_keys.specs.Keys.{key_cmp}
-use Rattle.slot_keys.specs.declared.keys.Keys.{Keys}
-use Rattle.triple_store.specs.Counts.{Counts, Exchanges, count_of}
-use Rattle.triple_store.specs.Moves.{triples_at}
-use Rattle.triple_store.specs.Slots.{triple_at}
+use Rattle.entity_model.specs.{declared.id.EntityId.EntityId, EntityId.entity_cmp, EntityId.entity_cmp_total, EntityId.entity_cmp_same}
+use Rattle.slot_keys.specs.{declared.key.Key.Key, Keys.key_cmp, declared.keys.Keys.Keys}
+use Rattle.triple_store.specs.{Counts.Counts, Counts.Exchanges, Counts.count_of, Moves.triples_at, Slots.triple_at}
 use Rattle.triple_store.specs.StoreState.{AreKeysOf, HasKey, IsSound, KeepsKeys, StoreState, counts_in}
 use Rattle.triple_store.specs.Updates.{AreStored}
-use Rattle.triple_store.proofs.Live.{tells}
-use Rattle.triple_store.proofs.Standing.{has-triples_at, triples_at-has}
-use Rattle.subgraph.specs.Entries.{Sets, owners_of}
-use Rattle.subgraph.specs.Graph.{IsInStep, keys_at, meant, rising_keys, sets_in}
+use Rattle.triple_store.proofs.{Live.tells, Standing.has-triples_at, Standing.triples_at-has}
+use Rattle.subgraph.specs.{Entries.Sets, Entries.owners_of, Graph.IsInStep, Graph.keys_at, Graph.meant, Graph.rising_keys, Graph.sets_in}
 use Rattle.subgraph.proofs.Owning.{alike, has_owner, id_tells, owners-insert, owners-remove, part}
 
 -- ---- the sets of entities by their keys

@@ -5,23 +5,17 @@ use Rattle.std.specs.FinMap as map
 use Rattle.std.specs.List.{AllByRecursion, flat_map}
 use Rattle.std.proofs.lemmas.List.{length-map}
 use Rattle.sorted_sets.proofs.Rising.{IsRising-sorted, same_rising}
-use Rattle.rdf_term.specs.declared.triple.Triple.{Triple}
-use Rattle.rdf_term.specs.Fit.{HasFitAndShortTerms}
-use Rattle.rdf_term.specs.Order.{triple_cmp, triple_cmp-total}
+use Rattle.rdf_term.specs.{declared.triple.Triple.Triple, Fit.HasFitAndShortTerms, Order.triple_cmp, Order.triple_cmp-total}
 use Rattle.rdf_term.proofs.Texts.{triple_cmp-IsAntisymmetric}
-use Rattle.entity_model.specs.declared.id.EntityId.{EntityId}
-use Rattle.entity_model.specs.EntityId.{entity_cmp, entity_cmp_total}
+use Rattle.entity_model.specs.{declared.id.EntityId.EntityId, EntityId.entity_cmp, EntityId.entity_cmp_total}
 use Rattle.slot_index.proofs.Mapped.{rising_keys}
 use Rattle.slot_keys.specs.declared.keys.Keys.{Keys}
-use Rattle.triple_store.specs.Counts.{Counts, HaveOwners, count_of}
-use Rattle.triple_store.specs.Room.{distinct, room_for, terms_of}
-use Rattle.triple_store.specs.StoreState.{IsSound, StoreState, counts_in}
-use Rattle.triple_store.specs.Updates.{MayCome}
+use Rattle.triple_store.specs.{Counts.Counts, Counts.HaveOwners, Counts.count_of, Room.distinct, Room.room_for, Room.terms_of}
+use Rattle.triple_store.specs.{StoreState.IsSound, StoreState.StoreState, StoreState.counts_in, Updates.MayCome}
 use Rattle.triple_store.proofs.Laid.{sound_owned}
 use Rattle.subgraph.specs.Entries.{owners_of, terms_with, union_of}
 use Rattle.subgraph.specs.Graph.{IsInStep, keys_at, meant, sets_in}
-use Rattle.subgraph.proofs.Owning.{few_owners, has-gathered}
-use Rattle.subgraph.proofs.Stepping.{get_set}
+use Rattle.subgraph.proofs.{Owning.few_owners, Owning.has-gathered, Stepping.get_set}
 
 -- a triple is stored where it has an owner
 is_stored : (counts : Counts) (t : Triple) → HaveOwners counts → map.contains_key counts t ≡ nat_lt 0 (count_of counts t)

@@ -2,17 +2,12 @@
 use Rattle.std.specs.Prelude.{◌≡◌, List, [], Option, None, Some}
 use Rattle.std.specs.Prelude.{map as mapped}
 use Rattle.std.specs.FinMap as map
-use Rattle.std.specs.Map.{lookup}
-use Rattle.std.specs.Ordering.{eq_by_cmp}
+use Rattle.std.specs.{Map.lookup, Ordering.eq_by_cmp}
 use Rattle.sorted_sets.specs.Rising.{sorted}
-use Rattle.rdf_term.specs.declared.triple.Triple.{Triple}
-use Rattle.rdf_term.specs.Order.{triple_cmp}
-use Rattle.entity_model.specs.declared.id.EntityId.{EntityId}
-use Rattle.entity_model.specs.EntityId.{entity_cmp}
-use Rattle.slot_keys.specs.declared.key.Key.{Key}
-use Rattle.slot_keys.specs.declared.keys.Keys.{Keys}
-use Rattle.triple_store.specs.Counts.{count_of}
-use Rattle.triple_store.specs.Moves.{triples_at}
+use Rattle.rdf_term.specs.{declared.triple.Triple.Triple, Order.triple_cmp}
+use Rattle.entity_model.specs.{declared.id.EntityId.EntityId, EntityId.entity_cmp}
+use Rattle.slot_keys.specs.{declared.key.Key.Key, declared.keys.Keys.Keys}
+use Rattle.triple_store.specs.{Counts.count_of, Moves.triples_at}
 use Rattle.triple_store.specs.StoreState.{AreKeysOf, IsSound, StoreState, counts_in}
 use Rattle.subgraph.specs.Entries.{Sets, owners_of}
 

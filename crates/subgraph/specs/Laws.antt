@@ -3,14 +3,11 @@ use Rattle.std.specs.Prelude.{◌≡◌, ◌↔◌, ℕ, ◌<◌, ◌≤◌, ◌
 use Rattle.std.specs.FinMap as map
 use Rattle.std.specs.List.{flat_map}
 use Rattle.sorted_sets.specs.Rising.{has, sorted}
-use Rattle.rdf_term.specs.declared.triple.Triple.{Triple}
-use Rattle.rdf_term.specs.Order.{triple_cmp}
+use Rattle.rdf_term.specs.{declared.triple.Triple.Triple, Order.triple_cmp}
 use Rattle.entity_model.specs.declared.id.EntityId.{EntityId}
 use Rattle.entity_state.specs.declared.record.Held.{Held}
-use Rattle.replay_model.specs.Records.{Bytes, Records, record_of}
-use Rattle.replay_model.specs.Union.{Meaning, union}
-use Rattle.subgraph.specs.Entries.{Entries, Entry, graph_triples, terms_with}
-use Rattle.subgraph.specs.Split.{entry}
+use Rattle.replay_model.specs.{Records.Bytes, Records.Records, Records.record_of, Union.Meaning, Union.union}
+use Rattle.subgraph.specs.{Entries.Entries, Entries.Entry, Entries.graph_triples, Entries.terms_with, Split.entry}
 
 -- the graph that the bytes of an entity's revision are routed to
 abbrev pub Routing : Type 0

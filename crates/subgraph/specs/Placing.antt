@@ -1,11 +1,9 @@
 -- In which graph an entity has its triples, and what a step changes of that.
 use Rattle.std.specs.Prelude.{◌≡◌, ℕ, ◌==◌, true, false, cond, ◌&&◌, List, length, Option, None, Some, is_some, slice_get}
 use Rattle.std.specs.FinMap as map
-use Rattle.std.specs.Option.{option_and_then}
-use Rattle.std.specs.Ordering.{eq_by_cmp}
+use Rattle.std.specs.{Option.option_and_then, Ordering.eq_by_cmp}
 use Rattle.rdf_term.specs.declared.triple.Triple.{Triple}
-use Rattle.entity_model.specs.declared.id.EntityId.{EntityId}
-use Rattle.entity_model.specs.EntityId.{entity_cmp}
+use Rattle.entity_model.specs.{declared.id.EntityId.EntityId, EntityId.entity_cmp}
 use Rattle.subgraph.specs.Entries.{Entry, GraphState}
 
 -- the set of an entity in a graph, if it has one there

@@ -1,14 +1,11 @@
 -- What is written in parts is written as a whole.
 use Rattle.std.proofs.Common.{refl, sym, ◌∙◌, ap, ◌≡◌, ℕ, ◌+◌, ◌-◌, ◌<◌, List, [], ◌∷◌, ◌++◌, length, take, drop, get_or, flat_map, Option, None, Some, ⊎_elim, ◌≤◌, Result, Ok, Err, append_assoc, append-nil, add-one, arith, length-append}
-use Rattle.std.proofs.Math.Seq.{take-length, take-suc}
-use Rattle.std.proofs.lemmas.List.Concat.{flat_map-append}
-use Rattle.std.specs.List.{slice_get}
-use Rattle.std.specs.Option.{option_map, unwrap_or}
+use Rattle.std.proofs.{Math.Seq.take-length, Math.Seq.take-suc, lemmas.List.Concat.flat_map-append}
 use Rattle.std.proofs.lemmas.Option.{get_or_from_slice_get, slice_get_cases}
 use Rattle.std.proofs.lemmas.List.{length-drop, take-append-drop}
+use Rattle.std.specs.{List.slice_get, Option.option_map, Option.unwrap_or}
 use Rattle.wq_io.specs.Streams.{Rose, after_known}
-use Rattle.text_output.specs.Printing.{Output, Prints}
-use Rattle.text_output.specs.declared.write.Unwritten.{Unwritten}
+use Rattle.text_output.specs.{Printing.Output, Printing.Prints, declared.write.Unwritten.Unwritten}
 use Rattle.text_output.specs.declared.write.Unwritten.TheVariants.{WriteFault, OutOfMemory}
 
 -- two parts, one after the other

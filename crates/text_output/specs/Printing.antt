@@ -1,9 +1,7 @@
 -- An output at a moment, and what printing makes of it.
 use Rattle.std.specs.Prelude.{◌≡◌, ℕ, ◌<◌, ◌≤◌, List, ◌++◌, length, Option, Result, MatchResult}
-use Rattle.wq_io.specs.Streams.{Rose, after_known}
-use Rattle.wq_io.specs.declared.sink.Sink.{Ghosts as SinkOf}
-use Rattle.text_output.specs.declared.write.Unwritten.{Unwritten}
-use Rattle.text_output.specs.declared.write.Unwritten.TheVariants.{WriteFault}
+use Rattle.wq_io.specs.{Streams.Rose, Streams.after_known, declared.sink.Sink.Ghosts as SinkOf}
+use Rattle.text_output.specs.{declared.write.Unwritten.Unwritten, declared.write.Unwritten.TheVariants.WriteFault}
 
 -- an output at a moment: the bytes that it has, where they are known; how many writes failed, as far as 64 bits count them; and the
 -- most that ever fail, where it is told

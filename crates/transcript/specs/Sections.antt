@@ -2,9 +2,7 @@
 use Rattle.std.specs.Prelude.{ℕ, cond, List, [], ◌++◌}
 use Rattle.rdf_term.specs.declared.triple.Triple.{Triple}
 use Rattle.side_output.specs.declared.entry.Entry.{Entry}
-use Rattle.replay_model.specs.Entries.{is_open_in}
-use Rattle.replay_model.specs.Records.{Records}
-use Rattle.replay_model.specs.Play.{Played}
+use Rattle.replay_model.specs.{Entries.is_open_in, Records.Records, Play.Played}
 use Rattle.replay_model.specs.Transcript.{Sections, entry_line, export_section, side_section, state_section}
 use Rattle.transcript.specs.declared.sections.Sections.{Sections as Asked}
 

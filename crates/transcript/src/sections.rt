@@ -4,7 +4,7 @@ ghost use Rattle.std.specs.Prelude.{◌≡◌, cond, []};
 ghost use Rattle.rdf_term.specs.{Order.triple_cmp, Pattern.rows};
 ghost use Rattle.replay_model.specs.Transcript.{ask_section, export_section, side_section, state_section};
 ghost use Rattle.replay_model.specs.{Union.union, Versions.meaning_by};
-ghost use Rattle.world.specs.Meaning.{meaning};
+ghost use Rattle.fetched_pages.specs.Meaning.{meaning};
 ghost use Rattle.text_output.specs.Printing.{Prints, output};
 ghost use Rattle.transcript.specs.Sections.{chosen, closing_of};
 

@@ -1,30 +1,20 @@
 -- A held page is remapped: what is kept stays in step with store and region.
 use Rattle.std.proofs.Common.{◌≡◌, ◌≢◌, ◌||◌, ℕ, Bool, true, false, cond, List, [], Option, Some, None, is_some, unwrap_or, refl, sym, ◌∙◌, ap, subst, true≢false, ⊎_elim}
 use Rattle.std.specs.FinMap as map
-use Rattle.std.specs.Cmp.{eq_by_cmp_equiv}
-use Rattle.std.specs.List.{list_any}
-use Rattle.std.specs.Ordering.{eq_by_cmp}
+use Rattle.std.specs.{Cmp.eq_by_cmp_equiv, List.list_any, Ordering.eq_by_cmp}
 use Rattle.sorted_sets.specs.Rising.{has}
-use Rattle.rdf_term.specs.declared.triple.Triple.{Triple}
-use Rattle.rdf_term.specs.Order.{triple_cmp}
-use Rattle.entity_model.specs.declared.id.EntityId.{EntityId}
-use Rattle.entity_model.specs.EntityId.{entity_cmp, entity_cmp_same, entity_cmp_total}
-use Rattle.entity_state.specs.declared.record.Held.{Held}
-use Rattle.entity_state.specs.declared.record.Record.{Record}
-use Rattle.entity_state.specs.Record.{blank}
-use Rattle.entity_state.specs.Table.{after_putting, has_room}
+use Rattle.rdf_term.specs.{declared.triple.Triple.Triple, Order.triple_cmp}
+use Rattle.entity_model.specs.{declared.id.EntityId.EntityId, EntityId.entity_cmp, EntityId.entity_cmp_same, EntityId.entity_cmp_total}
+use Rattle.entity_state.specs.{declared.record.Held.Held, declared.record.Record.Record, Record.blank, Table.after_putting, Table.has_room}
 use Rattle.entity_state.specs.Tabled.{Tabled}
 use Rattle.text_region.specs.declared.piece.Piece.{Piece}
-use Rattle.slot_keys.specs.declared.key.Key.{Key}
-use Rattle.slot_keys.specs.declared.keys.Keys.{Keys}
+use Rattle.slot_keys.specs.{declared.key.Key.Key, declared.keys.Keys.Keys}
 use Rattle.triple_store.specs.Counts.{Exchanges}
 use Rattle.triple_store.specs.StoreState.{AreKeysOf, IsSound, KeepsKeys, StoreState, beside, counts_in}
-use Rattle.replay_model.specs.Records.{Bytes, Records, record_of}
-use Rattle.replay_model.specs.Union.{Meaning, triples_held}
-use Rattle.world.specs.declared.kept.Kept.{Kept}
-use Rattle.world.specs.InStep.{IsKept, triples_kept}
+use Rattle.replay_model.specs.{Records.Bytes, Records.Records, Records.record_of, Union.Meaning, Union.triples_held}
+use Rattle.world.specs.{declared.kept.Kept.Kept, InStep.IsKept, InStep.triples_kept}
 use Rattle.world.specs.Keeping.{KeptRecords, PieceTexts, held_keys, held_with, kept_of, keys_held, piece_at, piece_held, record_with, seen, with_keys}
-use Rattle.world.proofs.Moving.{exchanged_same, kept_here, kept_other, kept_put, keys_same, seen_of, seen_put}
+use Rattle.world.proofs.Moving.{exchanged_same, record_here, record_elsewhere, kept_put, keys_same, seen_of, seen_put}
 use Rattle.world.proofs.Pieced.{held_again, id_tells}
 
 piece_same : (h : Option (Held Kept)) (keys : Keys) → piece_held (held_keys h keys) ≡ piece_held h
@@ -92,9 +82,9 @@ module _ (m m2 : Meaning Triple) (x : EntityId) (agree : (y : EntityId) → y �
   pieces_same : (y : EntityId) → piece_at (map.insert kept x anew) y ≡ piece_at kept y
   pieces_same y = ⊎_elim
       (λ own.
-      ap (λ z. piece_at (map.insert kept x anew) z) own.1 ∙ ap (λ (was : Record Kept). piece_held was.held) (kept_here kept x anew)
+      ap (λ z. piece_at (map.insert kept x anew) z) own.1 ∙ ap (λ (was : Record Kept). piece_held was.held) (record_here kept x anew)
       ∙ piece_same (kept_of kept x).held keys ∙ ap (piece_at kept) (sym own.1))
-      (λ other. ap (λ (was : Record Kept). piece_held was.held) (kept_other kept x anew y other.1))
+      (λ other. ap (λ (was : Record Kept). piece_held was.held) (record_elsewhere kept x anew y other.1))
       (id_tells y x)
 
   held_there : held_with (beside s2) anew.held ≡ held_with (beside s) (kept_of kept x).held

@@ -1,22 +1,15 @@
 -- The entities that hold a page are named by the versions of their pages.
 use Rattle.std.proofs.Common.{◌≡◌, ◌≢◌, ℕ, ◌+◌, Bool, true, false, not, cond, ◌&&◌, ◌||◌, List, [], ◌∷◌, Option, Some, None, is_some, IfSome, length, unwrap_or, refl, sym, ◌∙◌, ap, true≢false, ⊎_elim, if◌then◌else◌, arith}
-use Rattle.std.specs.BTreeSet.{insert_key}
+use Rattle.std.specs.{BTreeSet.insert_key, Ordering.eq_by_cmp, Set.remove_key, Cmp.eq_by_cmp_equiv}
 use Rattle.std.specs.FinMap as map
-use Rattle.std.specs.Ordering.{eq_by_cmp}
-use Rattle.std.specs.Set.{remove_key}
 use Rattle.sorted_sets.specs.Rising.{IsRising, has}
-use Rattle.sorted_sets.proofs.Bools.{or_true}
-use Rattle.sorted_sets.proofs.Filtering.{IsRising-filter, has-filter}
-use Rattle.sorted_sets.proofs.FirstPassing.{IsRising-remove_key}
+use Rattle.sorted_sets.proofs.{Bools.or_true, Filtering.IsRising-filter, Filtering.has-filter, FirstPassing.IsRising-remove_key}
 use Rattle.sorted_sets.proofs.Rising.{IsRising-insert_key, has-insert_key, has_itself, same_rising}
-use Rattle.std.specs.Cmp.{eq_by_cmp_equiv}
-use Rattle.entity_model.specs.declared.id.EntityId.{EntityId}
-use Rattle.entity_model.specs.declared.mapping.MappingVersion.{MappingVersion}
+use Rattle.entity_model.specs.{declared.id.EntityId.EntityId, declared.mapping.MappingVersion.MappingVersion}
 use Rattle.entity_model.specs.declared.mapping.MappingVersion.TheVariants.{One, Two}
 use Rattle.entity_model.specs.EntityId.{entity_cmp, entity_cmp_same, entity_cmp_total}
 use Rattle.entity_state.specs.declared.record.Record.{Record}
-use Rattle.replay_model.specs.Records.{Records}
-use Rattle.replay_model.specs.Union.{Meaning}
+use Rattle.replay_model.specs.{Records.Records, Union.Meaning}
 use Rattle.replay_model.specs.Versions.{all_by, holders, is_holder, meaning_by, version_at, with_version}
 use Rattle.replay_model.proofs.Versions.{has-holders, has-without, holders-rise}
 use Rattle.rdf_term.specs.declared.triple.Triple.{Triple}
@@ -24,8 +17,7 @@ use Rattle.world.specs.declared.kept.Kept.{Kept}
 use Rattle.world.specs.Holders.{AreBy, ByVersion, held_by, other_version, with_holder, without_holder}
 use Rattle.world.specs.Keeping.{KeptRecords, kept_of}
 use Rattle.world.specs.WorldState.{AreHolders, differ, first_of, stale_by, version_in, with_version_of}
-use Rattle.world.proofs.Moving.{kept_here, kept_other}
-use Rattle.world.proofs.Pieced.{id_tells}
+use Rattle.world.proofs.{Moving.record_here, Moving.record_elsewhere, Pieced.id_tells}
 
 module _ (x : EntityId) (xs : List EntityId) where
   put_own : has entity_cmp x (insert_key entity_cmp xs x) ≡ true
@@ -123,10 +115,10 @@ module _ (ids ids2 : ByVersion) (kept : KeptRecords) (x : EntityId) (n : Record 
     each = λ y. ⊎_elim
         (λ own.
         ap (λ z. has entity_cmp z ids2.by_one || has entity_cmp z ids2.by_two) own.1 ∙ here
-        ∙ ap (λ (was : Record Kept). is_some was.held) (sym (kept_here kept x n)) ∙ ap (λ z. is_some (kept_of (map.insert kept x n) z).held) (sym own.1))
+        ∙ ap (λ (was : Record Kept). is_some was.held) (sym (record_here kept x n)) ∙ ap (λ z. is_some (kept_of (map.insert kept x n) z).held) (sym own.1))
         (λ other.
         ap (λ b. b || has entity_cmp y ids2.by_two) (by_one_same y other.0) ∙ ap (λ b. has entity_cmp y ids.by_one || b) (by_two_same y other.0)
-        ∙ h.each y ∙ ap (λ (was : Record Kept). is_some was.held) (sym (kept_other kept x n y other.1)))
+        ∙ h.each y ∙ ap (λ (was : Record Kept). is_some was.held) (sym (record_elsewhere kept x n y other.1)))
         (id_tells y x);
     once = λ y there. ⊎_elim
         (λ own. ap (λ z. has entity_cmp z ids2.by_one) own.1 ∙ apart (ap (λ z. has entity_cmp z ids2.by_two) (sym own.1) ∙ there))

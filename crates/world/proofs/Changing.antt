@@ -2,25 +2,15 @@
 use Rattle.std.proofs.Common.{◌≡◌, ◌↔◌, Bool, true, false, not, ◌&&◌, List, [], ◌∷◌, length, Option, Some, None, refl, sym, ◌∙◌, ap, subst, arith}
 use Rattle.std.specs.FinMap as map
 use Rattle.sorted_sets.specs.Rising.{IsRising, difference, has}
-use Rattle.sorted_sets.proofs.Bools.{clash}
-use Rattle.sorted_sets.proofs.Filtering.{has-difference}
-use Rattle.sorted_sets.proofs.Rising.{has_itself, same_rising}
-use Rattle.rdf_term.specs.declared.triple.Triple.{Triple}
-use Rattle.rdf_term.specs.Order.{triple_cmp, triple_cmp-total}
+use Rattle.sorted_sets.proofs.{Bools.clash, Filtering.has-difference, Rising.has_itself, Rising.same_rising}
+use Rattle.rdf_term.specs.{declared.triple.Triple.Triple, Order.triple_cmp, Order.triple_cmp-total}
 use Rattle.rdf_term.proofs.Texts.{triple_cmp-IsAntisymmetric}
-use Rattle.triple_store.specs.declared.telling.Change.{Change}
-use Rattle.triple_store.specs.declared.telling.Telling.{Telling}
+use Rattle.triple_store.specs.{declared.telling.Change.Change, declared.telling.Telling.Telling}
 use Rattle.triple_store.specs.declared.telling.Telling.TheVariants.{Nothing, Change as TheChange}
-use Rattle.triple_store.specs.Counts.{Counts}
-use Rattle.triple_store.specs.StoreState.{StoreState, counts_in}
-use Rattle.triple_store.specs.Telling.{AreLinesOf, TellsIf}
-use Rattle.replay_model.specs.Union.{union}
-use Rattle.replay_model.specs.Versions.{meaning_by}
-use Rattle.world.specs.Changing.{IsChangeOf, Tells}
-use Rattle.world.specs.Holders.{ByVersion}
-use Rattle.world.specs.InStep.{AreInStep}
-use Rattle.world.specs.Keeping.{KeptRecords, seen}
-use Rattle.world.specs.Meaning.{meaning}
+use Rattle.triple_store.specs.{Counts.Counts, StoreState.StoreState, StoreState.counts_in, Telling.AreLinesOf, Telling.TellsIf}
+use Rattle.replay_model.specs.{Union.union, Versions.meaning_by}
+use Rattle.world.specs.{Changing.IsChangeOf, Changing.Tells, Holders.ByVersion, InStep.AreInStep, Keeping.KeptRecords, Keeping.seen}
+use Rattle.fetched_pages.specs.Meaning.{meaning}
 use Rattle.world.proofs.Rooming.{stored_union}
 
 -- the stored triples are those that are counted

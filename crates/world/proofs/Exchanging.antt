@@ -1,60 +1,47 @@
 -- The triples of a page came in the place of those that its entity had.
 use Rattle.std.proofs.Common.{◌≡◌, ℕ, ◌+◌, ◌<◌, ◌≤◌, Bool, true, false, List, [], Option, Some, None, cond, length, is_some, unwrap_or, refl, sym, ◌∙◌, ap, subst, true≢false, arith}
 use Rattle.std.specs.Prelude.{IfSome, option_map}
-use Rattle.sorted_sets.specs.Rising.{has}
+use Rattle.std.specs.Ordering.{eq_by_cmp}
+use Rattle.sorted_sets.specs.{Merging.Balance, Merging.IsWithin, Rising.has}
 use Rattle.sorted_sets.proofs.Rising.{has-sorted}
-use Rattle.rdf_term.specs.declared.triple.Triple.{Triple}
-use Rattle.rdf_term.specs.Order.{triple_cmp, triple_cmp-total}
+use Rattle.rdf_term.specs.{declared.triple.Triple.Triple, Order.triple_cmp, Order.triple_cmp-total}
 use Rattle.entity_json.specs.Document.{document_of}
 use Rattle.entity_model.specs.declared.document.Document.{Document}
 use Rattle.entity_model.specs.declared.document.Document.TheVariants.{Entity as AnEntity, Redirect, Lexeme as ALexeme}
-use Rattle.entity_model.specs.declared.entity.Entity.{Entity}
-use Rattle.entity_model.specs.declared.id.EntityId.{EntityId}
-use Rattle.entity_model.specs.declared.mapping.MappingVersion.{MappingVersion}
+use Rattle.entity_model.specs.{declared.entity.Entity.Entity, declared.id.EntityId.EntityId, declared.mapping.MappingVersion.MappingVersion}
 use Rattle.entity_model.specs.declared.mapping.MappingVersion.TheVariants.{One, Two}
 use Rattle.entity_model.specs.EntityId.{entity_cmp}
 use Rattle.page_rdf.specs.declared.counts.Counts.{Counts as PageCounts}
 use Rattle.entity_rdf.specs.Changing.{kept_list}
 use Rattle.entity_state.specs.declared.record.Held.{Held}
-use Rattle.replay_model.specs.Records.{Bytes}
-use Rattle.replay_model.specs.Union.{triples_held}
-use Rattle.replay_model.specs.Versions.{meaning_by, version_at}
-use Rattle.slot_keys.specs.declared.key.Key.{Key}
-use Rattle.slot_keys.specs.Keys.{key_cmp}
+use Rattle.replay_model.specs.{Records.Bytes, Union.triples_held, Versions.meaning_by, Versions.version_at}
+use Rattle.slot_keys.specs.{declared.key.Key.Key, Keys.key_cmp}
 use Rattle.term_pool.specs.Pool.{one_if}
-use Rattle.triple_store.specs.declared.updates.Exchange.{Exchange}
-use Rattle.triple_store.specs.declared.telling.Telling.{Telling}
-use Rattle.triple_store.specs.Counts.{Exchanges, count_of}
-use Rattle.triple_store.specs.Updates.{AreLeft, AreTimesIfKnown, AreTimesOf, ComesTo, HasExchanged, KeepsRest}
+use Rattle.triple_store.specs.{declared.updates.Exchange.Exchange, declared.telling.Telling.Telling, Counts.Exchanges, Counts.count_of}
+use Rattle.triple_store.specs.Updates.{AreLeft, AreTimesIfKnown, AreTimesOf, Becomes, ComesTo, HasExchanged, KeepsRest}
 use Rattle.triple_store.specs.Room.{room_for}
 use Rattle.triple_store.specs.StoreState.{AreKeysOf, HasKey, IsSound, KeepsKeys, StoreState, beside, counts_in, limit_of}
-use Rattle.triple_store.proofs.Becoming.{comes_parted}
-use Rattle.triple_store.proofs.Exchanged.{same_test}
-use Rattle.triple_store.proofs.Lasting.{no_times_known, times_last_if_known}
-use Rattle.triple_store.proofs.Live.{tells}
+use Rattle.triple_store.proofs.{Becoming.comes_parted, Exchanged.same_test, Lasting.no_times_known, Lasting.times_last_if_known, Live.tells}
 use Rattle.triple_store.proofs.Whole.{IsWhole}
-use Rattle.world.specs.declared.comparing.ChangedPage.{ChangedPage}
-use Rattle.world.specs.declared.comparing.ChangedTexts.{ChangedTexts}
-use Rattle.world.specs.declared.comparing.KnownPage.{KnownPage}
-use Rattle.world.specs.declared.fetching.FetchedPage.{FetchedPage}
-use Rattle.world.specs.declared.fetching.FetchedPage.TheVariants.{Whole, Changed}
-use Rattle.world.specs.declared.fetching.Wanted.{Wanted}
-use Rattle.world.specs.declared.kept.Kept.{Kept}
-use Rattle.world.specs.declared.kept.PageTimes.{PageTimes}
-use Rattle.world.specs.declared.swapping.PageExchange.{PageExchange}
-use Rattle.world.specs.Compared.{AreChanged, HasEntity, IsKnownPage}
-use Rattle.world.specs.Fetched.{IsFetched}
-use Rattle.world.specs.Holders.{AreBy, ByVersion, held_by}
-use Rattle.world.specs.InStep.{AreInStep}
+use Rattle.fetched_pages.specs.{declared.comparing.ChangedPage.ChangedPage, declared.comparing.ChangedTexts.ChangedTexts}
+use Rattle.fetched_pages.specs.{declared.comparing.KnownPage.KnownPage, declared.fetching.FetchedPage.FetchedPage}
+use Rattle.fetched_pages.specs.declared.fetching.FetchedPage.TheVariants.{Whole, Changed}
+use Rattle.fetched_pages.specs.{declared.fetching.Wanted.Wanted, Compared.AreChanged, Compared.HasEntity, Compared.IsKnownPage}
+use Rattle.fetched_pages.specs.{Fetched.IsFetched, Listed.AreTextsOf, Listed.IsListed, Meaning.meaning}
+use Rattle.world.specs.{declared.kept.Kept.Kept, declared.kept.PageTimes.PageTimes, declared.swapping.PageExchange.PageExchange}
+use Rattle.world.specs.{Holders.AreBy, Holders.ByVersion, Holders.held_by, InStep.AreInStep}
 use Rattle.world.specs.Keeping.{KeptRecords, PieceTexts, held_with, kept_of, keys_held, seen}
-use Rattle.world.specs.Listed.{AreTextsOf, IsListed}
-use Rattle.world.specs.Meaning.{meaning}
 use Rattle.world.specs.Swapped.{HasSwapped, MaySwap, MaySwapParts, wanted_meaning, with_counts}
 use Rattle.world.specs.Timed.{IsTimed, IsTimedHeld, counts_held, times_held, times_known}
-use Rattle.world.proofs.Listing.{listed_meant}
-use Rattle.world.proofs.Moving.{held_is, keys_same}
-use Rattle.world.proofs.Rooming.{room_same}
-use Rattle.world.proofs.Timing.{own_meaning, owned_kept}
+use Rattle.fetched_pages.proofs.Listing.{listed_meant}
+use Rattle.world.proofs.{Moving.held_is, Moving.keys_same, Rooming.room_same, Timing.own_meaning, Timing.owned_kept}
+
+-- lists that balance, by how many times each triple comes
+becomes_by : (new gone old come : List Triple) → Balance new gone old come → IsWithin gone old → Becomes old new gone come
+becomes_by new gone old come h within = record {
+  balance = λ t. h.weighs (λ (u : Triple). cond (eq_by_cmp triple_cmp t u) 1 0);
+  within = λ t. within.weighs (λ (u : Triple). cond (eq_by_cmp triple_cmp t u) 1 0);
+}
 
 -- two lists that have the same keys have the same triples
 keys_tell : (s : StoreState) (keys : List Key) (ts us : List Triple) → AreKeysOf s keys ts → AreKeysOf s keys us → (t : Triple) → has triple_cmp t ts ≡ true → has triple_cmp t us ≡ true
@@ -135,7 +122,8 @@ module _ (telling : Telling) (old new : StoreState) (gone : List Key) (times lef
   told = omega (arith, less.as_many, some)
 
   comes : ComesTo old gone left page.texts.come (kept_list wanted.version wanted.id h.old_rev h.old) (kept_list wanted.version wanted.id wanted.rev h.changed.new)
-  comes = comes_parted old.catalog old.texts gone times left (kept_list wanted.version wanted.id h.old_rev h.old) (kept_list wanted.version wanted.id wanted.rev h.changed.new) page.texts.gone page.texts.come (h.times_are told) less h.changed.becomes
+  comes = comes_parted old.catalog old.texts gone times left (kept_list wanted.version wanted.id h.old_rev h.old) (kept_list wanted.version wanted.id wanted.rev h.changed.new) page.texts.gone page.texts.come (h.times_are told) less
+      (becomes_by (kept_list wanted.version wanted.id wanted.rev h.changed.new) page.texts.gone (kept_list wanted.version wanted.id h.old_rev h.old) page.texts.come h.changed.balance h.changed.within)
 
   pub parts_swapped : (done : Exchange) (swapped : PageExchange)
       → ((before after : List Triple) → ComesTo old gone left page.texts.come before after → HasExchanged telling old new before after done)
@@ -166,7 +154,7 @@ entity_same d e f one two = ap inside (sym one ∙ two)
     inside (Some (Redirect y)) = e
     inside (Some (ALexeme l)) = e
 
-abbrev content_of : Option (Held Bytes) → Bytes
+abbrev pub content_of : Option (Held Bytes) → Bytes
 content_of None = []
 content_of (Some h) = h.content
 
@@ -240,32 +228,29 @@ known_if s ids kept x version None h there counted is = tt
 known_if s ids kept x version (Some page) h there counted is = known_is s ids kept x version page h there counted is
 
 -- a page that was fetched may come once it has a place
-pub may_swap : (s s1 : StoreState) (ids : ByVersion) (kept : KeptRecords) (x : EntityId) (version : MappingVersion) (rev : ℕ) (wanted : Wanted) (page : FetchedPage) (keys : List Key) (times : List ℕ)
+pub may_swap : (s s1 : StoreState) (ids : ByVersion) (kept : KeptRecords) (wanted : Wanted) (page : FetchedPage) (keys : List Key) (times : List ℕ)
     → AreInStep s ids kept → ((key : Key) (t : Triple) → HasKey s key t → HasKey s1 key t) → counts_in s1 ≡ counts_in s
-    → wanted ≡ record { id = x; rev = rev; version = version } → keys ≡ keys_held (kept_of kept x).held → times ≡ times_held (kept_of kept x).held
-    → IsFetched (seen s kept) ids.by_two version x rev page → MaySwap s1 keys times wanted page
-may_swap s s1 ids kept x version rev wanted page keys times h place_kept place_counts is keys_are times_are fetched =
-    subst (λ (w : Wanted). MaySwap s1 keys times w page) (sym is) (by page fetched)
-  where
-    by : (page : FetchedPage) → IsFetched (seen s kept) ids.by_two version x rev page → MaySwap s1 keys times (record { id = x; rev = rev; version = version }) page
-    by (Whole page) fetched = fetched
-    by (Changed page) fetched =
-        let change = fetched.change in
-        let held = (kept_of kept x).held in
-        let m = meaning_by meaning ids.by_two in
-        let owned : (t : Triple) → has triple_cmp t (triples_held (meaning version) x (held_with (beside s) held)) ≡ true → 0 < count_of (counts_in s1) t = λ t there.
-        let count : count_of (counts_in s1) t ≡ count_of (counts_in s) t = ap (λ c. count_of c t) place_counts in
-        let means : triples_held m x (held_with (beside s) held) ≡ triples_held (meaning version) x (held_with (beside s) held) =
-        own_meaning ids.by_two x (held_with (beside s) held) ∙ ap (λ (v : MappingVersion). triples_held (meaning v) x (held_with (beside s) held)) change.by_version in
-        let some : 0 < count_of (counts_in s) t = owned_kept m s kept h.kept x t (ap (has triple_cmp t) means ∙ there) in
-        omega arith in
-        record {
-          old_rev = change.before.revision;
-          old = change.old;
-          changed = change.changed;
-          times_are = subst (λ (ks : List Key). AreTimesIfKnown s1 ks times (kept_list version x change.before.revision change.old)) (sym keys_are)
-              (subst (λ (ns : List ℕ). AreTimesIfKnown s1 (keys_held held) ns (kept_list version x change.before.revision change.old)) (sym times_are)
-              (times_there version s s1 (beside s) x held change.before change.old
-              (subst (λ (v : MappingVersion). IsTimedHeld v s (beside s) x held) change.by_version (h.timed x))
-              (sym (held_is s kept x) ∙ change.held) change.document owned (record { kept = λ key t has _. place_kept key t has })));
-        }
+    → keys ≡ keys_held (kept_of kept wanted.id).held → times ≡ times_held (kept_of kept wanted.id).held
+    → IsFetched (seen s kept) ids.by_two wanted.version wanted.id wanted.rev page → MaySwap s1 keys times wanted page
+may_swap s s1 ids kept wanted (Whole page) keys times h place_kept place_counts keys_are times_are fetched = fetched
+may_swap s s1 ids kept wanted (Changed page) keys times h place_kept place_counts keys_are times_are fetched =
+    let x = wanted.id in
+    let change = fetched.change in
+    let held = (kept_of kept x).held in
+    let m = meaning_by meaning ids.by_two in
+    let owned : (t : Triple) → has triple_cmp t (triples_held (meaning wanted.version) x (held_with (beside s) held)) ≡ true → 0 < count_of (counts_in s1) t = λ t there.
+    let count : count_of (counts_in s1) t ≡ count_of (counts_in s) t = ap (λ c. count_of c t) place_counts in
+    let means : triples_held m x (held_with (beside s) held) ≡ triples_held (meaning wanted.version) x (held_with (beside s) held) =
+    own_meaning ids.by_two x (held_with (beside s) held) ∙ ap (λ (v : MappingVersion). triples_held (meaning v) x (held_with (beside s) held)) change.by_version in
+    let some : 0 < count_of (counts_in s) t = owned_kept m s kept h.kept x t (ap (has triple_cmp t) means ∙ there) in
+    omega arith in
+    record {
+      old_rev = change.before.revision;
+      old = change.old;
+      changed = change.changed;
+      times_are = subst (λ (ks : List Key). AreTimesIfKnown s1 ks times (kept_list wanted.version x change.before.revision change.old)) (sym keys_are)
+          (subst (λ (ns : List ℕ). AreTimesIfKnown s1 (keys_held held) ns (kept_list wanted.version x change.before.revision change.old)) (sym times_are)
+          (times_there wanted.version s s1 (beside s) x held change.before change.old
+          (subst (λ (v : MappingVersion). IsTimedHeld v s (beside s) x held) change.by_version (h.timed x))
+          (sym (held_is s kept x) ∙ change.held) change.document owned (record { kept = λ key t has _. place_kept key t has })));
+    }

@@ -1,14 +1,7 @@
 -- An application gives back the page that it stored.
-use Rattle.std.proofs.Common.{◌≡◌, ℕ, Bool, true, false, cond, List, Option, None, Some, IfSome, Result, Ok, Err, is_some, true≢false, unwrap_or, refl, sym, ◌∙◌, ap, subst}
-use Rattle.std.specs.FinMap as map
-use Rattle.std.specs.Cmp.{eq_by_cmp_equiv}
-use Rattle.entity_model.specs.declared.event.Event.{Event}
-use Rattle.entity_model.specs.declared.id.EntityId.{EntityId}
-use Rattle.entity_model.specs.declared.mapping.MappingVersion.{MappingVersion}
-use Rattle.entity_model.specs.EntityId.{entity_cmp_total}
-use Rattle.entity_state.specs.declared.record.Held.{Held}
-use Rattle.entity_state.specs.declared.record.Record.{Record}
-use Rattle.entity_state.specs.Record.{blank, held_revision, wants}
+use Rattle.std.proofs.Common.{◌≡◌, ℕ, Bool, true, false, cond, List, Option, None, Some, IfSome, Result, Ok, Err, is_some, true≢false, refl, sym, ap, subst}
+use Rattle.entity_model.specs.{declared.event.Event.Event, declared.id.EntityId.EntityId, declared.mapping.MappingVersion.MappingVersion}
+use Rattle.entity_state.specs.{declared.record.Held.Held, declared.record.Record.Record, Record.held_revision, Record.wants}
 use Rattle.entity_state.specs.State.{is_deleted, state_after}
 use Rattle.replay_model.specs.Play.{Played, apply, held_after_fetch, record_after, records_after}
 use Rattle.replay_model.specs.Records.{Bytes, Records, record_of}
@@ -16,19 +9,16 @@ use Rattle.side_output.specs.declared.entry.Cause.{Cause}
 use Rattle.graph_routes.specs.declared.routes.Route.{Route}
 use Rattle.world.specs.declared.applied.Outcome.{Outcome}
 use Rattle.world.specs.declared.applied.Outcome.TheVariants.{Same, Stored, Dropped, Sided}
-use Rattle.world.specs.declared.applied.RoutedPage.{RoutedPage}
-use Rattle.world.specs.declared.fetching.FetchedPage.{FetchedPage}
-use Rattle.world.specs.declared.fetching.FetchedPage.TheVariants.{Whole, Changed}
-use Rattle.world.specs.Applying.{outcome_after, outcome_of_reply}
-use Rattle.world.specs.Fetched.{AreMeant, reply_or_any}
-use Rattle.world.specs.Routed.{AreRouted, GivesPage, routed_by, with_route}
+use Rattle.world.specs.{declared.applied.RoutedPage.RoutedPage, Applying.outcome_after, Applying.outcome_of_reply}
+use Rattle.world.specs.Routed.{GivesPage, routed_by, with_route}
+use Rattle.world.proofs.Moving.{record_here}
+use Rattle.fetched_pages.specs.declared.fetching.FetchedPage.{FetchedPage}
+use Rattle.fetched_pages.specs.declared.fetching.FetchedPage.TheVariants.{Whole, Changed}
+use Rattle.fetched_pages.specs.{Fetched.AreMeant, Fetched.reply_or_any, Routing.AreRouted}
 
 -- the record of the event's entity after an application
 pub recorded : (records : Records) (e : Event) (reply : Result Bytes Cause) → record_of (records_after (λ _ _. reply) records e) e.entity ≡ record_after (λ _ _. reply) e (record_of records e.entity)
-recorded records e reply =
-    ap (λ (o : Option (Record Bytes)). unwrap_or o blank)
-    (map.get-insert entity_cmp_total records e.entity (record_after (λ _ _. reply) e (record_of records e.entity)) e.entity
-    ∙ ap (λ b. cond b (Some (record_after (λ _ _. reply) e (record_of records e.entity))) (map.get records e.entity)) ((eq_by_cmp_equiv entity_cmp_total).refl e.entity))
+recorded records e reply = record_here records e.entity (record_after (λ _ _. reply) e (record_of records e.entity))
 
 module _ (known : List Route) (v : MappingVersion) (records : Records) (by_two : List EntityId) (e : Event) where
   abbrev rev : ℕ

@@ -2,23 +2,17 @@
 use Rattle.std.proofs.Common.{◌≡◌, inl, inr, true, List, [], Option, Some, None, is_some, unwrap_or, refl, sym, ◌∙◌, ap, subst, true≢false, ⊎_elim}
 use Rattle.std.specs.List.{flat_map}
 use Rattle.sorted_sets.specs.Rising.{has}
-use Rattle.rdf_term.specs.declared.term.Term.{Term}
-use Rattle.rdf_term.specs.declared.triple.Triple.{Triple}
-use Rattle.rdf_term.specs.Order.{term_cmp}
+use Rattle.rdf_term.specs.{declared.term.Term.Term, declared.triple.Triple.Triple, Order.term_cmp}
 use Rattle.entity_model.specs.declared.id.EntityId.{EntityId}
 use Rattle.entity_state.specs.declared.record.Held.{Held}
-use Rattle.text_region.specs.declared.piece.Piece.{Piece}
-use Rattle.text_region.specs.Region.{bytes_of}
+use Rattle.text_region.specs.{declared.piece.Piece.Piece, Region.bytes_of}
 use Rattle.triple_store.specs.Room.{terms_of}
 use Rattle.triple_store.specs.StoreState.{AreLaid, StoreState, beside, terms_in as terms_stored}
-use Rattle.replay_model.specs.Records.{Bytes, record_of}
-use Rattle.replay_model.specs.Union.{Meaning}
-use Rattle.world.specs.declared.kept.Kept.{Kept}
-use Rattle.world.specs.InStep.{IsKept}
+use Rattle.replay_model.specs.{Records.Bytes, Records.record_of, Union.Meaning}
+use Rattle.world.specs.{declared.kept.Kept.Kept, InStep.IsKept}
 use Rattle.world.specs.Keeping.{KeptRecords, held_with, kept_of, piece_at, piece_held, seen}
 use Rattle.world.specs.Laid.{IsLaid, terms_in}
-use Rattle.world.proofs.Moving.{held_is}
-use Rattle.world.proofs.Rooming.{stored_union}
+use Rattle.world.proofs.{Moving.held_is, Rooming.stored_union}
 
 some_is : (o : Option Bytes) → is_some o ≡ true → o ≡ Some (unwrap_or o [])
 some_is None h = absurd (true≢false (sym h))

@@ -1,13 +1,10 @@
 pub mod Anew
 pub mod ByVersion
 pub mod Changing
-pub mod ChangedPages
 pub mod Entries
 pub mod Fit
 pub mod Giving
 pub mod Laying
-pub mod Listing
-pub mod Means
 pub mod Moving
 pub mod OneSet
 pub mod OneVersion
@@ -16,6 +13,7 @@ pub mod Pieced
 pub mod PuttingIn
 pub mod Replacing
 pub mod Rooming
+pub mod Shown
 pub mod Starting
 pub mod Stepping
 pub mod Exchanging

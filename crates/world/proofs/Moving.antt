@@ -1,32 +1,22 @@
 -- What is kept stays in step with store and region where the record of an entity is put in.
 use Rattle.std.proofs.Common.{◌≡◌, ◌≢◌, ℕ, ◌+◌, ◌<◌, true, cond, List, [], Option, Some, None, unwrap_or, refl, sym, ◌∙◌, ap, subst, ⊎_elim, arith}
 use Rattle.std.specs.FinMap as map
-use Rattle.std.specs.Ordering.{eq_by_cmp}
-use Rattle.std.specs.Cmp.{eq_by_cmp_equiv}
+use Rattle.std.specs.{Ordering.eq_by_cmp, Cmp.eq_by_cmp_equiv}
 use Rattle.sorted_sets.specs.Rising.{has}
-use Rattle.rdf_term.specs.declared.triple.Triple.{Triple}
-use Rattle.rdf_term.specs.Order.{triple_cmp}
-use Rattle.entity_model.specs.declared.id.EntityId.{EntityId}
-use Rattle.entity_model.specs.EntityId.{entity_cmp, entity_cmp_total, entity_cmp_same}
-use Rattle.entity_state.specs.declared.record.Held.{Held}
-use Rattle.entity_state.specs.declared.record.Record.{Record}
-use Rattle.entity_state.specs.Record.{blank, held_revision}
-use Rattle.entity_state.specs.declared.standing.Standing.{Standing}
-use Rattle.entity_state.specs.Standing.{standing_of}
+use Rattle.rdf_term.specs.{declared.triple.Triple.Triple, Order.triple_cmp}
+use Rattle.entity_model.specs.{declared.id.EntityId.EntityId, EntityId.entity_cmp, EntityId.entity_cmp_total, EntityId.entity_cmp_same}
+use Rattle.entity_state.specs.{declared.record.Held.Held, declared.record.Record.Record, Record.blank, Record.held_revision}
+use Rattle.entity_state.specs.{declared.standing.Standing.Standing, Standing.standing_of}
 use Rattle.text_region.specs.declared.piece.Piece.{Piece}
-use Rattle.slot_keys.specs.declared.key.Key.{Key}
-use Rattle.slot_keys.specs.Keys.{key_cmp}
+use Rattle.slot_keys.specs.{declared.key.Key.Key, Keys.key_cmp}
 use Rattle.term_pool.specs.Pool.{one_if}
 use Rattle.triple_store.specs.Counts.{Counts, Exchanges, count_of}
 use Rattle.triple_store.specs.StoreState.{AreKeysOf, HasKey, IsSound, KeepsKeys, StoreState, beside, counts_in}
 use Rattle.triple_store.specs.Updates.{AreStored}
-use Rattle.replay_model.specs.Records.{Bytes, Records, record_of}
-use Rattle.replay_model.specs.Union.{Meaning, owners, triples_held}
-use Rattle.world.specs.declared.kept.Kept.{Kept}
-use Rattle.world.specs.InStep.{CountsOwners, IsHeld, IsKept, triples_kept}
+use Rattle.replay_model.specs.{Records.Bytes, Records.Records, Records.record_of, Union.Meaning, Union.owners, Union.triples_held}
+use Rattle.world.specs.{declared.kept.Kept.Kept, InStep.CountsOwners, InStep.IsHeld, InStep.IsKept, InStep.triples_kept}
 use Rattle.world.specs.Keeping.{KeptRecords, PieceTexts, held_with, kept_of, keys_held, piece_at, piece_held, record_with, records_with, seen}
-use Rattle.world.proofs.Owning.{counted_moved, has_owner, held_agrees}
-use Rattle.world.proofs.Pieced.{id_tells}
+use Rattle.world.proofs.{Owning.counted_moved, Owning.has_owner, Owning.held_agrees, Pieced.id_tells}
 use Rattle.world.proofs.Values.{changed, get-values, values-insert}
 
 -- the record of an entity among the records that are seen
@@ -53,20 +43,21 @@ standing_is s kept x =
 pub held_is : (s : StoreState) (kept : KeptRecords) (x : EntityId) → (record_of (seen s kept) x).held ≡ held_with (beside s) (kept_of kept x).held
 held_is s kept x = ap (λ (was : Record Bytes). was.held) (seen_of (beside s) kept x)
 
--- the record of the entity after a record is put in
-pub kept_here : (kept : KeptRecords) (x : EntityId) (n : Record Kept) → kept_of (map.insert kept x n) x ≡ n
-kept_here kept x n =
-    ap (λ o. unwrap_or o blank) (map.get-insert entity_cmp_total kept x n x)
-    ∙ ap (λ b. unwrap_or (cond b (Some n) (map.get kept x)) blank) ((eq_by_cmp_equiv entity_cmp_total).refl x)
+module _ {H : Type 0} (records : map.FinMap entity_cmp (Record H)) (x : EntityId) (n : Record H) where
+  -- the record of the entity after a record is put in
+  pub record_here : unwrap_or (map.get (map.insert records x n) x) blank ≡ n
+  record_here =
+      ap (λ o. unwrap_or o blank) (map.get-insert entity_cmp_total records x n x)
+      ∙ ap (λ b. unwrap_or (cond b (Some n) (map.get records x)) blank) ((eq_by_cmp_equiv entity_cmp_total).refl x)
 
--- and of another
-pub kept_other : (kept : KeptRecords) (x : EntityId) (n : Record Kept) (y : EntityId) → y ≢ x → kept_of (map.insert kept x n) y ≡ kept_of kept y
-kept_other kept x n y other = ⊎_elim
-    (λ own. absurd (other own.1))
-    (λ apart.
-    ap (λ o. unwrap_or o blank) (map.get-insert entity_cmp_total kept x n y)
-    ∙ ap (λ b. unwrap_or (cond b (Some n) (map.get kept y)) blank) apart.0)
-    (id_tells y x)
+  -- and of another
+  pub record_elsewhere : (y : EntityId) → y ≢ x → unwrap_or (map.get (map.insert records x n) y) blank ≡ unwrap_or (map.get records y) blank
+  record_elsewhere y other = ⊎_elim
+      (λ own. absurd (other own.1))
+      (λ apart.
+      ap (λ o. unwrap_or o blank) (map.get-insert entity_cmp_total records x n y)
+      ∙ ap (λ b. unwrap_or (cond b (Some n) (map.get records y)) blank) apart.0)
+      (id_tells y x)
 
 module _ (f k : PieceTexts) where
   pub held_same : (h : Option (Held Kept)) → ((p : Piece) → piece_held h ≡ Some p → k p ≡ f p) → held_with k h ≡ held_with f h
@@ -169,7 +160,7 @@ module _ (m m2 : Meaning Triple) (x : EntityId) (agree : (y : EntityId) → y �
       → AreKeysOf s2 (keys_held (kept_of (map.insert kept x n) y).held) (triples_kept m2 (beside s2) (map.insert kept x n) y)
   others_keyed counted keeps y other =
       let same : triples_kept m2 (beside s2) (map.insert kept x n) y ≡ triples_kept m (beside s) kept y =
-      ap (λ (was : Record Kept). triples_held m2 y (held_with (beside s2) was.held)) (kept_other kept x n y other)
+      ap (λ (was : Record Kept). triples_held m2 y (held_with (beside s2) was.held)) (record_elsewhere kept x n y other)
       ∙ ap (triples_held m2 y) (held_same (beside s) (beside s2) (kept_of kept y).held (λ p. texts y p other))
       ∙ held_agrees m m2 x agree y other (held_with (beside s) (kept_of kept y).held) in
       let owned : (t : Triple) → has triple_cmp t (triples_kept m (beside s) kept y) ≡ true → 0 < count_of (counts_in s2) t = λ t there.
@@ -179,7 +170,7 @@ module _ (m m2 : Meaning Triple) (x : EntityId) (agree : (y : EntityId) → y �
       let count : count_of (counts_in s2) t ≡ owners triple_cmp m2 (seen s2 (map.insert kept x n)) t = counted.owned t in
       omega arith in
       subst (λ (ts : List Triple). AreKeysOf s2 (keys_held (kept_of (map.insert kept x n) y).held) ts) (sym same)
-      (subst (λ (was : Record Kept). AreKeysOf s2 (keys_held was.held) (triples_kept m (beside s) kept y)) (sym (kept_other kept x n y other))
+      (subst (λ (was : Record Kept). AreKeysOf s2 (keys_held was.held) (triples_kept m (beside s) kept y)) (sym (record_elsewhere kept x n y other))
       (keys_stay s s2 (keys_held (kept_of kept y).held) (triples_kept m (beside s) kept y) (h.keyed y) keeps owned))
 
   -- a record is put in: what it holds is stored, and what was held there before is not
@@ -194,7 +185,7 @@ module _ (m m2 : Meaning Triple) (x : EntityId) (agree : (y : EntityId) → y �
     held = held;
     keyed = λ y. ⊎_elim
         (λ own. subst (λ (z : EntityId). AreKeysOf s2 (keys_held (kept_of (map.insert kept x n) z).held) (triples_kept m2 (beside s2) (map.insert kept x n) z)) (sym own.1)
-        (subst (λ (was : Record Kept). AreKeysOf s2 (keys_held was.held) (triples_held m2 x (held_with (beside s2) was.held))) (sym (kept_here kept x n)) keyed))
+        (subst (λ (was : Record Kept). AreKeysOf s2 (keys_held was.held) (triples_held m2 x (held_with (beside s2) was.held))) (sym (record_here kept x n)) keyed))
         (λ other. others_keyed (put_counted moves) keeps y other.1)
         (id_tells y x);
   }

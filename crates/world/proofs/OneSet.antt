@@ -2,11 +2,9 @@
 use Rattle.std.proofs.Common.{◌≡◌, ℕ, List, Option, Some, None, flat_map, refl, sym, ◌∙◌, ap, subst}
 use Rattle.sorted_sets.specs.Rising.{sorted}
 use Rattle.sorted_sets.proofs.Rising.{IsRising-sorted, sorted_rising}
-use Rattle.rdf_term.specs.declared.triple.Triple.{Triple}
-use Rattle.rdf_term.specs.Order.{triple_cmp, triple_cmp-total}
+use Rattle.rdf_term.specs.{declared.triple.Triple.Triple, Order.triple_cmp, Order.triple_cmp-total}
 use Rattle.rdf_term.proofs.Texts.{triple_cmp-IsAntisymmetric}
-use Rattle.entity_model.specs.declared.id.EntityId.{EntityId}
-use Rattle.entity_model.specs.declared.document.Document.{Document}
+use Rattle.entity_model.specs.{declared.id.EntityId.EntityId, declared.document.Document.Document}
 use Rattle.entity_model.specs.declared.mapping.MappingVersion.{MappingVersion}
 use Rattle.entity_json.specs.Document.{document_of}
 use Rattle.entity_rdf.specs.Dump.{dump}
@@ -14,13 +12,10 @@ use Rattle.munger.specs.Munging.{munged}
 use Rattle.entity_state.specs.declared.record.Held.{Held}
 use Rattle.slot_keys.specs.declared.key.Key.{Key}
 use Rattle.triple_store.specs.StoreState.{AreKeysOf, StoreState, beside}
-use Rattle.replay_model.specs.Records.{Bytes, record_of}
-use Rattle.replay_model.specs.Union.{triples_held}
-use Rattle.replay_model.specs.Versions.{meaning_by, version_at}
-use Rattle.world.specs.Holders.{ByVersion}
-use Rattle.world.specs.InStep.{AreInStep, triples_kept}
+use Rattle.replay_model.specs.{Records.Bytes, Records.record_of, Union.triples_held, Versions.meaning_by, Versions.version_at}
+use Rattle.world.specs.{Holders.ByVersion, InStep.AreInStep, InStep.triples_kept}
 use Rattle.world.specs.Keeping.{KeptRecords, kept_of, keys_held, seen}
-use Rattle.world.specs.Meaning.{meaning, triples_if}
+use Rattle.fetched_pages.specs.Meaning.{meaning, triples_if}
 use Rattle.world.proofs.Moving.{held_is}
 
 -- what a document means is in order

@@ -1,34 +1,24 @@
 -- The versions of a world follow the play, and where all that is held is mapped by one version, so it is after an application.
 use Rattle.std.proofs.Common.{◌≡◌, ◌∙◌, refl, sym, ap, subst, ℕ, Bool, true, false, cond, ◌&&◌, List, [], ◌∷◌, Option, None, Some, Result, Ok, Err, is_ok, is_some, true≢false}
-use Rattle.std.specs.Ordering.{eq_by_cmp}
-use Rattle.std.specs.Set.{remove_key}
+use Rattle.std.specs.{Ordering.eq_by_cmp, Set.remove_key}
 use Rattle.sorted_sets.specs.Rising.{has}
-use Rattle.sorted_sets.proofs.Bools.{or_false_left, or_false_right}
-use Rattle.sorted_sets.proofs.Rising.{has_itself}
-use Rattle.entity_model.specs.declared.id.EntityId.{EntityId}
-use Rattle.entity_model.specs.declared.event.Event.{Event}
-use Rattle.entity_model.specs.declared.mapping.MappingVersion.{MappingVersion}
+use Rattle.sorted_sets.proofs.{Bools.or_false_left, Bools.or_false_right, Rising.has_itself}
+use Rattle.entity_model.specs.{declared.id.EntityId.EntityId, declared.event.Event.Event, declared.mapping.MappingVersion.MappingVersion}
 use Rattle.entity_model.specs.declared.mapping.MappingVersion.TheVariants.{One, Two}
 use Rattle.entity_model.specs.EntityId.{entity_cmp, entity_cmp_total}
-use Rattle.entity_state.specs.declared.record.Held.{Held}
-use Rattle.entity_state.specs.declared.record.Record.{Record}
-use Rattle.entity_state.specs.State.{is_deleted, state_after}
+use Rattle.entity_state.specs.{declared.record.Held.Held, declared.record.Record.Record, State.is_deleted, State.state_after}
 use Rattle.entity_state.specs.Record.{held_revision, wants}
 use Rattle.side_output.specs.declared.entry.Cause.{Cause}
 use Rattle.revisions.specs.Revisions.{Contents}
 use Rattle.replay_model.specs.Play.{held_after_fetch, nothing_played}
 use Rattle.replay_model.specs.PlayedVersions.{by_two_after_event, by_two_remapped}
-use Rattle.replay_model.specs.Records.{Bytes, Records, record_of}
-use Rattle.replay_model.specs.ReplayState.{ReplayState}
+use Rattle.replay_model.specs.{Records.Bytes, Records.Records, Records.record_of, ReplayState.ReplayState}
 use Rattle.replay_model.specs.Versions.{all_by, is_holder, with_version}
-use Rattle.replay_model.proofs.PlayedVersions.{by_two-event, by_two-remapped}
-use Rattle.replay_model.proofs.RecordOf.{record_of-empty}
+use Rattle.replay_model.proofs.{PlayedVersions.by_two-event, PlayedVersions.by_two-remapped, RecordOf.record_of-empty}
 use Rattle.replay_model.proofs.Versions.{has-holders, holders-rise}
-use Rattle.world.specs.declared.applied.Applied.{Applied}
-use Rattle.world.specs.declared.applied.Outcome.{Outcome}
+use Rattle.world.specs.{declared.applied.Applied.Applied, declared.applied.Outcome.Outcome}
 use Rattle.world.specs.declared.applied.Outcome.TheVariants.{Same, Dropped}
-use Rattle.world.specs.Applying.{Applies, outcome_of_reply}
-use Rattle.world.specs.WorldState.{AreHolders, WorldState, by_two_after}
+use Rattle.world.specs.{Applying.Applies, Applying.outcome_of_reply, WorldState.AreHolders, WorldState.WorldState, WorldState.by_two_after}
 
 -- one that isn't there is taken out
 without_absent : (x : EntityId) (xs : List EntityId) → has entity_cmp x xs ≡ false → remove_key (eq_by_cmp entity_cmp x) xs ≡ xs

@@ -5,19 +5,14 @@ use Rattle.std.specs.Ordering.{eq_by_cmp}
 use Rattle.std.proofs.lemmas.List.Sums.{count_by-le-length}
 use Rattle.sorted_sets.specs.Rising.{has, difference}
 use Rattle.sorted_sets.proofs.Filtering.{has-difference}
-use Rattle.rdf_term.specs.declared.triple.Triple.{Triple}
-use Rattle.rdf_term.specs.Order.{triple_cmp, triple_cmp-total}
-use Rattle.entity_model.specs.declared.id.EntityId.{EntityId}
-use Rattle.entity_model.specs.EntityId.{entity_cmp, entity_cmp_total}
-use Rattle.entity_state.specs.declared.record.Held.{Held}
-use Rattle.entity_state.specs.declared.record.Record.{Record}
-use Rattle.entity_state.specs.Record.{blank}
+use Rattle.rdf_term.specs.{declared.triple.Triple.Triple, Order.triple_cmp, Order.triple_cmp-total}
+use Rattle.entity_model.specs.{declared.id.EntityId.EntityId, EntityId.entity_cmp, EntityId.entity_cmp_total}
+use Rattle.entity_state.specs.{declared.record.Held.Held, declared.record.Record.Record, Record.blank}
 use Rattle.term_pool.specs.Pool.{one_if}
 use Rattle.triple_store.specs.Counts.{Counts, Exchanges, count_of}
 use Rattle.replay_model.specs.Records.{Bytes, Records, record_of}
 use Rattle.replay_model.specs.Union.{Meaning, triples_at, triples_held, owners}
-use Rattle.replay_model.proofs.Owners.{owners-change}
-use Rattle.replay_model.proofs.Versions.{owners-agree}
+use Rattle.replay_model.proofs.{Owners.owners-change, Versions.owners-agree}
 use Rattle.world.specs.InStep.{CountsOwners}
 use Rattle.world.proofs.Pieced.{id_tells}
 

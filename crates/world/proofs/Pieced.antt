@@ -1,14 +1,11 @@
 -- Each held page keeps a piece of its own where another page comes or goes.
 use Rattle.std.proofs.Common.{◌≡◌, ◌≢◌, ◌⊎◌, inl, inr, Bool, true, false, Option, Some, None, is_some, refl, sym, ◌∙◌, ap, true≢false, ⊎_elim}
-use Rattle.std.specs.Ordering.{eq_by_cmp}
-use Rattle.std.specs.Cmp.{eq_by_cmp_equiv}
+use Rattle.std.specs.{Ordering.eq_by_cmp, Cmp.eq_by_cmp_equiv}
 use Rattle.sorted_sets.proofs.Bools.{equal}
-use Rattle.entity_model.specs.declared.id.EntityId.{EntityId}
-use Rattle.entity_model.specs.EntityId.{entity_cmp, entity_cmp_total, entity_cmp_same}
+use Rattle.entity_model.specs.{declared.id.EntityId.EntityId, EntityId.entity_cmp, EntityId.entity_cmp_total, EntityId.entity_cmp_same}
 use Rattle.text_region.specs.declared.piece.Piece.{Piece}
 use Rattle.text_region.proofs.Pieces.{piece_tells}
-use Rattle.world.specs.InStep.{IsHeld}
-use Rattle.world.specs.Keeping.{PieceTexts}
+use Rattle.world.specs.{InStep.IsHeld, Keeping.PieceTexts}
 
 -- two ids are one, or they aren't, as the test says
 pub id_tells : (y x : EntityId) → ((eq_by_cmp entity_cmp y x ≡ true) × (y ≡ x)) ⊎ ((eq_by_cmp entity_cmp y x ≡ false) × (y ≢ x))

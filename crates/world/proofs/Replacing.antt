@@ -2,13 +2,9 @@
 use Rattle.std.proofs.Common.{◌≡◌, ◌≢◌, ℕ, ◌+◌, ◌<◌, true, List, [], Option, Some, None, is_some, unwrap_or, refl, sym, ◌∙◌, ap, subst, true≢false, ⊎_elim, arith}
 use Rattle.std.specs.FinMap as map
 use Rattle.sorted_sets.specs.Rising.{has}
-use Rattle.rdf_term.specs.declared.triple.Triple.{Triple}
-use Rattle.rdf_term.specs.Order.{triple_cmp}
-use Rattle.entity_model.specs.declared.id.EntityId.{EntityId}
-use Rattle.entity_model.specs.declared.event.Event.{Event}
-use Rattle.entity_state.specs.declared.state.State.{State}
-use Rattle.entity_state.specs.declared.record.Held.{Held}
-use Rattle.entity_state.specs.declared.record.Record.{Record}
+use Rattle.rdf_term.specs.{declared.triple.Triple.Triple, Order.triple_cmp}
+use Rattle.entity_model.specs.{declared.id.EntityId.EntityId, declared.event.Event.Event}
+use Rattle.entity_state.specs.{declared.state.State.State, declared.record.Held.Held, declared.record.Record.Record}
 use Rattle.text_region.specs.declared.piece.Piece.{Piece}
 use Rattle.text_region.proofs.Pieces.{piece_tells}
 use Rattle.slot_keys.specs.declared.key.Key.{Key}
@@ -16,14 +12,11 @@ use Rattle.term_pool.specs.Pool.{one_if}
 use Rattle.triple_store.specs.Counts.{Counts, Exchanges, count_of}
 use Rattle.triple_store.specs.StoreState.{AreKeysOf, HasKey, IsSound, KeepsKeys, StoreState, beside, counts_in}
 use Rattle.triple_store.specs.Stored.{Changes}
-use Rattle.replay_model.specs.Records.{Bytes, Records, record_of}
-use Rattle.replay_model.specs.Union.{Meaning, owners, triples_held}
-use Rattle.world.specs.declared.kept.Kept.{Kept}
-use Rattle.world.specs.InStep.{CountsOwners, IsHeld, IsKept, triples_kept}
+use Rattle.replay_model.specs.{Records.Bytes, Records.Records, Records.record_of, Union.Meaning, Union.owners, Union.triples_held}
+use Rattle.world.specs.{declared.kept.Kept.Kept, InStep.CountsOwners, InStep.IsHeld, InStep.IsKept, InStep.triples_kept}
 use Rattle.world.specs.Keeping.{FreesPiece, KeptRecords, PieceTexts, held_with, kept_of, keys_held, piece_at, piece_held, record_with, seen}
-use Rattle.world.proofs.Moving.{held_same, kept_here, kept_other, kept_put, keys_moved, keys_same, keys_stay, seen_again, seen_of, seen_put}
-use Rattle.world.proofs.Owning.{has_owner}
-use Rattle.world.proofs.Pieced.{beside as others_text, held_again, id_tells, moved_held}
+use Rattle.world.proofs.Moving.{held_same, record_here, record_elsewhere, kept_put, keys_moved, keys_same, keys_stay, seen_again, seen_of, seen_put}
+use Rattle.world.proofs.{Owning.has_owner, Pieced.beside as others_text, Pieced.held_again, Pieced.id_tells, Pieced.moved_held}
 
 freed_other : (old : Option Piece) (f k : PieceTexts) → FreesPiece old f k → (p : Piece) → old ≢ Some p → k p ≡ f p
 freed_other None f k h p other = h p
@@ -59,7 +52,7 @@ module _ (m m2 : Meaning Triple) (x : EntityId) (agree : (y : EntityId) → y �
     (fresh : (p : Piece) → piece_held n.held ≡ Some p → (beside s p ≡ None) × (is_some (beside s2 p) ≡ true))
     (freed : FreesPiece (piece_at kept x) (beside s2) (beside s3)) where
   after_is : piece_at (map.insert kept x n) x ≡ piece_held n.held
-  after_is = ap (λ (was : Record Kept). piece_held was.held) (kept_here kept x n)
+  after_is = ap (λ (was : Record Kept). piece_held was.held) (record_here kept x n)
 
   -- the piece that comes isn't the one that is freed
   pub new_text : (p : Piece) → piece_held n.held ≡ Some p → beside s3 p ≡ beside s2 p
@@ -67,7 +60,7 @@ module _ (m m2 : Meaning Triple) (x : EntityId) (agree : (y : EntityId) → y �
       (λ was. true≢false (sym (h.held.live x p was) ∙ ap is_some (fresh p is).0))
 
   elsewhere : (y : EntityId) → y ≢ x → piece_at (map.insert kept x n) y ≡ piece_at kept y
-  elsewhere y other = ap (λ (was : Record Kept). piece_held was.held) (kept_other kept x n y other)
+  elsewhere y other = ap (λ (was : Record Kept). piece_held was.held) (record_elsewhere kept x n y other)
 
   comes : (p : Piece) → piece_at (map.insert kept x n) x ≡ Some p → (beside s p ≡ None) × (is_some (beside s3 p) ≡ true)
   comes p is =
@@ -184,25 +177,6 @@ placed_freed f f1 f2 k piece bytes placed texts freed p = ⊎_elim
     (λ other. freed.others p other.1 ∙ texts p ∙ placed.others p other.1)
     (piece_tells p piece)
 
--- the piece that was placed for it is freed
-pub kept_undone : (m : Meaning Triple) (s s1 s2 s3 : StoreState) (kept : KeptRecords) (piece : Piece) (bytes : Bytes)
-    → IsKept m s kept
-    → Changes (beside s) (beside s1) piece None (Some bytes)
-    → ((key : Key) (t : Triple) → HasKey s key t → HasKey s1 key t)
-    → counts_in s1 ≡ counts_in s
-    → KeepsKeys s1 s2
-    → ((p : Piece) → beside s2 p ≡ beside s1 p)
-    → counts_in s2 ≡ counts_in s1
-    → IsSound s3
-    → counts_in s3 ≡ counts_in s2
-    → ((key : Key) (t : Triple) → HasKey s2 key t → HasKey s3 key t)
-    → Changes (beside s2) (beside s3) piece (beside s2 piece) None
-    → IsKept m s3 kept
-kept_undone m s s1 s2 s3 kept piece bytes h placed place_kept place_counts keeps texts err sound counts put_kept freed =
-    kept_refused m s s3 kept h sound (counts ∙ err ∙ place_counts)
-    (keeps_through s s1 s2 s3 place_kept keeps counts put_kept)
-    (placed_freed (beside s) (beside s1) (beside s2) (beside s3) piece bytes placed texts freed)
-
 module _ (m m2 : Meaning Triple) (x : EntityId) (agree : (y : EntityId) → y ≢ x → (rev : ℕ) (bytes : Bytes) → m2 y rev bytes ≡ m y rev bytes)
     (s s2 s3 : StoreState) (kept : KeptRecords) (state : State) (reconciled : Option Event)
     (h : IsKept m s kept)
@@ -243,8 +217,8 @@ module _ (m : Meaning Triple) (s : StoreState) (kept : KeptRecords) (x : EntityI
 
   pieces_stay : (y : EntityId) → piece_at (map.insert kept x kept_record) y ≡ piece_at kept y
   pieces_stay y = ⊎_elim
-      (λ own. ap (λ z. piece_at (map.insert kept x kept_record) z) own.1 ∙ ap (λ (was : Record Kept). piece_held was.held) (kept_here kept x kept_record) ∙ ap (piece_at kept) (sym own.1))
-      (λ other. ap (λ (was : Record Kept). piece_held was.held) (kept_other kept x kept_record y other.1))
+      (λ own. ap (λ z. piece_at (map.insert kept x kept_record) z) own.1 ∙ ap (λ (was : Record Kept). piece_held was.held) (record_here kept x kept_record) ∙ ap (piece_at kept) (sym own.1))
+      (λ other. ap (λ (was : Record Kept). piece_held was.held) (record_elsewhere kept x kept_record y other.1))
       (id_tells y x)
 
   pub stayed_seen : seen s (map.insert kept x kept_record) ≡ map.insert (seen s kept) x (record { state = state; held = (record_of (seen s kept) x).held; reconciled = reconciled })

@@ -4,38 +4,27 @@ use Rattle.std.specs.List.{flat_map, list_any}
 use Rattle.std.specs.FinMap as map
 use Rattle.std.proofs.lemmas.List.{length-map}
 use Rattle.sorted_sets.specs.Rising.{has, sorted}
-use Rattle.sorted_sets.proofs.Finding.{list_any-sorted}
-use Rattle.sorted_sets.proofs.Rising.{has-append, same_rising, sorted_same}
-use Rattle.rdf_term.specs.declared.term.Term.{Term}
-use Rattle.rdf_term.specs.declared.triple.Triple.{Triple}
+use Rattle.sorted_sets.proofs.{Finding.list_any-sorted, Rising.has-append, Rising.same_rising, Rising.sorted_same}
+use Rattle.rdf_term.specs.{declared.term.Term.Term, declared.triple.Triple.Triple}
 use Rattle.rdf_term.specs.Order.{term_cmp, term_cmp-total, triple_cmp, triple_cmp-total}
 use Rattle.rdf_term.proofs.Texts.{term_cmp-IsAntisymmetric, triple_cmp-IsAntisymmetric}
-use Rattle.triple_store.specs.Counts.{Counts, HaveOwners, count_of}
-use Rattle.triple_store.specs.Room.{distinct, room_for, terms_of}
+use Rattle.triple_store.specs.{Counts.Counts, Counts.HaveOwners, Counts.count_of, Room.distinct, Room.room_for, Room.terms_of}
 use Rattle.triple_store.specs.StoreState.{StoreState, beside, counts_in, limit_of}
-use Rattle.std.specs.Cmp.{eq_by_cmp_equiv}
-use Rattle.entity_model.specs.declared.event.Event.{Event}
-use Rattle.entity_model.specs.EntityId.{entity_cmp_total}
-use Rattle.entity_model.specs.declared.mapping.MappingVersion.{MappingVersion}
-use Rattle.entity_state.specs.declared.record.Record.{Record}
-use Rattle.entity_state.specs.Record.{blank, held_revision, wants}
-use Rattle.entity_state.specs.State.{is_deleted, state_after}
+use Rattle.entity_model.specs.{declared.event.Event.Event, declared.mapping.MappingVersion.MappingVersion}
+use Rattle.entity_state.specs.{declared.record.Record.Record, Record.held_revision, Record.wants, State.is_deleted, State.state_after}
 use Rattle.side_output.specs.declared.entry.Cause.{Cause}
 use Rattle.triple_store.proofs.Laid.{sound_owned, sound_room}
 use Rattle.replay_model.specs.Records.{Bytes, Records, record_of}
 use Rattle.replay_model.specs.Play.{held_after_fetch, record_after, records_after}
+use Rattle.replay_model.specs.Union.{Meaning, triples_at, triples_held, union}
 use Rattle.world.specs.declared.applied.Outcome.{Outcome}
 use Rattle.world.specs.declared.applied.Outcome.TheVariants.{Dropped, Same, Stored}
-use Rattle.world.specs.Applying.{outcome_after, outcome_of_reply}
-use Rattle.replay_model.specs.Union.{Meaning, triples_at, triples_held, union}
+use Rattle.world.specs.{Applying.outcome_after, Applying.outcome_of_reply, InStep.CountsOwners, InStep.IsKept}
+use Rattle.world.specs.{Keeping.KeptRecords, Keeping.record_with, Keeping.seen, Roomed.HasRoom, Roomed.room_with, Roomed.triples_of_reply}
 use Rattle.replay_model.proofs.Owners.{has-union, union-rises}
-use Rattle.world.specs.InStep.{CountsOwners, IsKept}
-use Rattle.world.specs.Keeping.{KeptRecords, record_with, seen}
-use Rattle.world.specs.Meaning.{meaning}
-use Rattle.world.specs.Roomed.{HasRoom, room_with, triples_of_reply}
-use Rattle.world.proofs.Owning.{countable}
+use Rattle.fetched_pages.specs.Meaning.{meaning}
+use Rattle.world.proofs.{Moving.record_here, Owning.countable, Values.values_len}
 use Rattle.slot_index.proofs.Mapped.{rising_keys}
-use Rattle.world.proofs.Values.{values_len}
 
 -- a triple is stored where it has an owner
 stored : (counts : Counts) (t : Triple) → HaveOwners counts → map.contains_key counts t ≡ nat_lt 0 (count_of counts t)
@@ -126,9 +115,7 @@ pub stored_page : (v : MappingVersion) (records : Records) (e : Event) (reply : 
     → triples_held (meaning v) e.entity (record_of (records_after (λ _ _. reply) records e) e.entity).held
     ≡ triples_of_reply v e.entity (state_after (record_of records e.entity).state e).rev reply
 stored_page v records e reply outcome is stored =
-    ap (λ (o : Option (Record Bytes)). triples_held (meaning v) e.entity (unwrap_or o blank).held)
-    (map.get-insert entity_cmp_total records e.entity (record_after (λ _ _. reply) e (record_of records e.entity)) e.entity
-    ∙ ap (λ b. cond b (Some (record_after (λ _ _. reply) e (record_of records e.entity))) (map.get records e.entity)) ((eq_by_cmp_equiv entity_cmp_total).refl e.entity))
+    ap (λ (r : Record Bytes). triples_held (meaning v) e.entity r.held) (record_here records e.entity (record_after (λ _ _. reply) e (record_of records e.entity)))
     ∙ by (wants (state_after (record_of records e.entity).state e) (held_revision (record_of records e.entity).held)) (is_deleted (state_after (record_of records e.entity).state e).mode) reply (sym is ∙ stored)
   where
     by : (b d : Bool) (reply : Result Bytes Cause) → cond b (outcome_of_reply reply) (cond d Dropped Same) ≡ Stored

@@ -1,27 +1,19 @@
 -- Without records, triples and texts all is in step.
 use Rattle.std.proofs.Common.{◌≡◌, List, [], Some, None, is_some, unwrap_or, ℕ, refl, sym, ◌∙◌, ap, subst, true≢false}
 use Rattle.std.specs.FinMap as map
-use Rattle.entity_model.specs.declared.id.EntityId.{EntityId}
-use Rattle.entity_model.specs.EntityId.{entity_cmp}
-use Rattle.entity_state.specs.declared.record.Record.{Record}
-use Rattle.entity_state.specs.Record.{blank}
+use Rattle.entity_model.specs.{declared.id.EntityId.EntityId, EntityId.entity_cmp}
+use Rattle.entity_state.specs.{declared.record.Record.Record, Record.blank}
 use Rattle.rdf_term.specs.declared.triple.Triple.{Triple}
 use Rattle.text_region.specs.declared.piece.Piece.{Piece}
 use Rattle.triple_store.specs.Counts.{Counts}
 use Rattle.triple_store.specs.StoreState.{AreKeysOf, IsSound, StoreState, beside, counts_in, limit_of}
-use Rattle.world.specs.Holders.{AreBy, ByVersion}
-use Rattle.world.specs.WorldState.{HoldingsState}
-use Rattle.entity_json.specs.Document.{unfit_of}
-use Rattle.replay_model.specs.Records.{Bytes, Records, record_of}
-use Rattle.replay_model.specs.Replies.{HoldsDocument}
-use Rattle.world.specs.declared.kept.Kept.{Kept}
-use Rattle.world.specs.InStep.{CountsOwners, IsKept}
-use Rattle.replay_model.specs.Versions.{version_at}
-use Rattle.world.specs.Timed.{AreTimed, IsTimedHeld}
+use Rattle.world.specs.{Holders.AreBy, Holders.ByVersion, WorldState.HoldingsState, declared.kept.Kept.Kept}
+use Rattle.world.specs.{InStep.CountsOwners, InStep.IsKept, Timed.AreTimed, Timed.IsTimedHeld}
 use Rattle.world.specs.Keeping.{KeptRecords, held_with, kept_of, keys_held, piece_at, piece_held, record_with, seen}
+use Rattle.entity_json.specs.Document.{unfit_of}
+use Rattle.replay_model.specs.{Records.Bytes, Records.Records, Records.record_of, Replies.HoldsDocument, Versions.version_at}
 use Rattle.replay_model.specs.Union.{Meaning, triples_held}
-use Rattle.world.proofs.Owning.{none_counted}
-use Rattle.world.proofs.Values.{values_empty}
+use Rattle.world.proofs.{Owning.none_counted, Values.values_empty}
 
 -- nothing is seen of no records
 pub seen_nothing : (s : StoreState) (kept : KeptRecords) → kept ≡ map.empty → seen s kept ≡ map.empty

@@ -3,43 +3,26 @@ use Rattle.std.proofs.Common.{◌≡◌, ◌≢◌, ℕ, ◌<◌, true, List, []
 use Rattle.std.specs.Prelude.{IfSome}
 use Rattle.std.specs.FinMap as map
 use Rattle.sorted_sets.specs.Rising.{has}
-use Rattle.rdf_term.specs.declared.triple.Triple.{Triple}
-use Rattle.rdf_term.specs.Order.{triple_cmp}
-use Rattle.entity_model.specs.declared.id.EntityId.{EntityId}
-use Rattle.entity_model.specs.declared.event.Event.{Event}
-use Rattle.entity_model.specs.declared.mapping.MappingVersion.{MappingVersion}
+use Rattle.rdf_term.specs.{declared.triple.Triple.Triple, Order.triple_cmp}
+use Rattle.entity_model.specs.{declared.id.EntityId.EntityId, declared.event.Event.Event, declared.mapping.MappingVersion.MappingVersion}
 use Rattle.entity_model.specs.declared.mapping.MappingVersion.TheVariants.{One}
-use Rattle.entity_state.specs.declared.state.State.{State}
-use Rattle.entity_state.specs.declared.record.Held.{Held}
-use Rattle.entity_state.specs.declared.record.Record.{Record}
+use Rattle.entity_state.specs.{declared.state.State.State, declared.record.Held.Held, declared.record.Record.Record}
 use Rattle.text_region.specs.declared.piece.Piece.{Piece}
-use Rattle.slot_keys.specs.declared.key.Key.{Key}
-use Rattle.slot_keys.specs.declared.keys.Keys.{Keys}
+use Rattle.slot_keys.specs.{declared.key.Key.Key, declared.keys.Keys.Keys}
 use Rattle.triple_store.specs.Counts.{Exchanges, count_of}
 use Rattle.triple_store.specs.StoreState.{AreKeysOf, HasKey, IsSound, KeepsKeys, StoreState, beside, counts_in, limit_of}
 use Rattle.triple_store.specs.Stored.{Changes}
-use Rattle.replay_model.specs.Records.{Bytes, Records, record_of}
-use Rattle.replay_model.specs.Union.{Meaning, triples_held}
+use Rattle.replay_model.specs.{Records.Bytes, Records.Records, Records.record_of, Union.Meaning, Union.triples_held}
 use Rattle.replay_model.specs.Versions.{is_holder, meaning_by, version_at, with_version}
-use Rattle.world.specs.declared.kept.Kept.{Kept}
-use Rattle.world.specs.Holders.{AreBy, ByVersion}
-use Rattle.world.specs.InStep.{AreInStep, IsKept}
+use Rattle.world.specs.{declared.kept.Kept.Kept, Holders.AreBy, Holders.ByVersion, InStep.AreInStep, InStep.IsKept}
 use Rattle.world.specs.Keeping.{FreesPiece, KeptRecords, held_keys, held_with, kept_of, keys_held, piece_at, seen, with_keys}
-use Rattle.world.specs.Meaning.{meaning}
-use Rattle.world.specs.Timed.{AreTimed, IsTimed}
-use Rattle.world.proofs.Anew.{anew_kept, anew_seen}
-use Rattle.world.specs.Roomed.{HasRoom}
-use Rattle.world.specs.WorldState.{AreHolders}
+use Rattle.world.specs.{Timed.AreTimed, Timed.IsTimed, Roomed.HasRoom, WorldState.AreHolders}
+use Rattle.fetched_pages.specs.Meaning.{meaning}
+use Rattle.world.proofs.{Anew.anew_kept, Anew.anew_seen, Exchanging.content_of}
 use Rattle.world.proofs.ByVersion.{by_drop, by_keep, by_put, meaning_other, moved_out, moved_by_two, moved_to, by_two_holds, version_other, version_own}
-use Rattle.world.proofs.Moving.{kept_here, seen_of}
-use Rattle.world.proofs.Rooming.{room_held}
+use Rattle.world.proofs.{Moving.record_elsewhere, Moving.record_here, Moving.seen_of, Rooming.room_held}
 use Rattle.world.proofs.Replacing.{came, came_seen, keeps_through, kept_refused, page_held, placed_freed, stayed, stayed_seen, went, went_seen, with_bytes, with_page}
-use Rattle.world.proofs.Timing.{if_moved, owned_kept, record_other, timed_put, timed_same, unknown_keys}
-
--- the bytes of what is held
-abbrev content_of : Option (Held Bytes) → Bytes
-content_of None = []
-content_of (Some h) = h.content
+use Rattle.world.proofs.Timing.{if_moved, owned_kept, timed_put, timed_same, unknown_keys}
 
 some_keys : (h : Option (Held Kept)) (keys : Keys) → is_some h ≡ true → is_some (held_keys h keys) ≡ true
 some_keys None keys is = is
@@ -97,12 +80,12 @@ module _ (s : StoreState) (ids : ByVersion) (kept : KeptRecords) (x : EntityId) 
         ap content_of (page_held before (after v) x (agree v) s s1 s2 s3 kept state reconciled rev content bytes ts old h.kept placed place_kept place_counts keeps texts counts put_kept freed) in
         let owned : (t : Triple) → has triple_cmp t (meaning v x rev bytes) ≡ true → 0 < count_of (counts_in s3) t = λ t there.
         owned_kept (after v) s3 (map.insert kept x (with_page state reconciled rev content)) now x t
-        (ap (λ (r : Record Kept). has triple_cmp t (triples_held (after v) x (held_with (beside s3) r.held))) (kept_here kept x (with_page state reconciled rev content))
+        (ap (λ (r : Record Kept). has triple_cmp t (triples_held (after v) x (held_with (beside s3) r.held))) (record_here kept x (with_page state reconciled rev content))
         ∙ ap (λ (b : Bytes). has triple_cmp t (after v x rev b)) own_text
         ∙ ap (λ (w : MappingVersion). has triple_cmp t (meaning w x rev bytes)) (own v) ∙ there) in
         timed_put s s3 ids.by_two (with_version v x ids.by_two) kept x (with_page state reconciled rev content) h.timed now
         (keeps_through s s1 s2 s3 place_kept keeps counts put_kept) (versions v)
-        (λ y other. ap (λ (records : Records). record_of records y) page_seen ∙ record_other (seen s kept) x (with_bytes state reconciled rev bytes) y other)
+        (λ y other. ap (λ (records : Records). record_of records y) page_seen ∙ record_elsewhere (seen s kept) x (with_bytes state reconciled rev bytes) y other)
         (subst (λ (w : MappingVersion). IfSome content.times (IsTimed w s3 x rev (unwrap_or (beside s3 content.piece) []) content.keys.rising.items)) (sym (own v))
         (subst (λ (b : Bytes). IfSome content.times (IsTimed v s3 x rev b content.keys.rising.items)) (sym own_text)
         (if_moved v s2 s3 x (record { kept = λ key t is _. put_kept key t is }) rev bytes content.keys.rising.items content.times owned timed)))
@@ -150,7 +133,7 @@ module _ (s : StoreState) (ids : ByVersion) (kept : KeptRecords) (x : EntityId) 
           kept = now;
           by = by_drop ids kept x without h.by refl;
           timed = timed_put s s3 ids.by_two (with_version One x ids.by_two) kept x without h.timed now (keeps_through s s s2 s3 (λ _ _ is. is) keeps counts put_kept) (versions One)
-              (λ y other. ap (λ (records : Records). record_of records y) gone_seen ∙ record_other (seen s kept) x (record { state = state; held = None; reconciled = reconciled }) y other)
+              (λ y other. ap (λ (records : Records). record_of records y) gone_seen ∙ record_elsewhere (seen s kept) x (record { state = state; held = None; reconciled = reconciled }) y other)
               tt;
         })
 
@@ -162,7 +145,7 @@ module _ (s : StoreState) (ids : ByVersion) (kept : KeptRecords) (x : EntityId) 
         kept = stayed before s kept x state reconciled h.kept;
         by = by_keep ids kept x same h.by refl;
         timed = timed_put s s ids.by_two ids.by_two kept x same h.timed (stayed before s kept x state reconciled h.kept) (record { kept = λ _ _ is _. is }) (λ _ _. refl)
-            (λ y other. ap (λ (records : Records). record_of records y) (stayed_seen before s kept x state reconciled h.kept) ∙ record_other (seen s kept) x (record { state = state; held = (record_of (seen s kept) x).held; reconciled = reconciled }) y other)
+            (λ y other. ap (λ (records : Records). record_of records y) (stayed_seen before s kept x state reconciled h.kept) ∙ record_elsewhere (seen s kept) x (record { state = state; held = (record_of (seen s kept) x).held; reconciled = reconciled }) y other)
             (h.timed x);
       }
 

@@ -1,36 +1,24 @@
 -- How many times each triple of a held page comes is known on while the store changes.
-use Rattle.std.proofs.Common.{◌≡◌, ◌≢◌, ℕ, ◌<◌, true, List, [], Option, Some, None, unwrap_or, cond, refl, sym, ◌∙◌, ap, subst, ⊎_elim, arith}
+use Rattle.std.proofs.Common.{◌≡◌, ◌≢◌, ℕ, ◌<◌, true, List, [], Option, Some, None, unwrap_or, refl, sym, ◌∙◌, ap, subst, ⊎_elim, arith}
 use Rattle.std.specs.Prelude.{IfSome}
 use Rattle.std.specs.FinMap as map
 use Rattle.sorted_sets.specs.Rising.{has}
-use Rattle.rdf_term.specs.declared.triple.Triple.{Triple}
-use Rattle.rdf_term.specs.Order.{triple_cmp}
+use Rattle.rdf_term.specs.{declared.triple.Triple.Triple, Order.triple_cmp}
 use Rattle.entity_json.specs.Document.{document_of}
-use Rattle.entity_model.specs.declared.id.EntityId.{EntityId}
-use Rattle.entity_model.specs.EntityId.{entity_cmp_total}
-use Rattle.entity_model.specs.declared.mapping.MappingVersion.{MappingVersion}
-use Rattle.entity_state.specs.declared.record.Held.{Held}
-use Rattle.entity_state.specs.declared.record.Record.{Record}
-use Rattle.entity_state.specs.Record.{blank}
-use Rattle.replay_model.specs.Records.{Bytes, Records, record_of}
-use Rattle.replay_model.specs.Union.{Meaning, owners, triples_held}
+use Rattle.entity_model.specs.{declared.id.EntityId.EntityId, declared.mapping.MappingVersion.MappingVersion}
+use Rattle.entity_state.specs.{declared.record.Held.Held, declared.record.Record.Record}
+use Rattle.replay_model.specs.{Records.Bytes, Records.record_of, Union.Meaning, Union.owners, Union.triples_held}
 use Rattle.replay_model.specs.Versions.{meaning_by, version_at}
-use Rattle.slot_keys.specs.declared.key.Key.{Key}
+use Rattle.slot_keys.specs.{declared.key.Key.Key, declared.keys.Keys.Keys}
 use Rattle.text_region.specs.declared.piece.Piece.{Piece}
-use Rattle.triple_store.specs.Counts.{count_of}
-use Rattle.slot_keys.specs.declared.keys.Keys.{Keys}
-use Rattle.triple_store.specs.StoreState.{KeepsKeys, StoreState, beside, counts_in}
+use Rattle.triple_store.specs.{Counts.count_of, StoreState.KeepsKeys, StoreState.StoreState, StoreState.beside, StoreState.counts_in}
 use Rattle.triple_store.proofs.Lasting.{times_last_if_known}
-use Rattle.world.specs.declared.kept.Kept.{Kept}
-use Rattle.world.specs.declared.kept.PageTimes.{PageTimes}
-use Rattle.world.specs.InStep.{IsKept, triples_kept}
+use Rattle.world.specs.{declared.kept.Kept.Kept, declared.kept.PageTimes.PageTimes, InStep.IsKept, InStep.triples_kept}
 use Rattle.world.specs.Keeping.{KeptRecords, PieceTexts, held_keys, held_with, kept_of, seen}
-use Rattle.world.specs.Meaning.{meaning}
 use Rattle.world.specs.Timed.{AreTimed, IsTimed, IsTimedHeld}
-use Rattle.world.proofs.Listing.{listed_meant}
-use Rattle.world.proofs.Moving.{held_is, held_same, kept_here, kept_other}
-use Rattle.world.proofs.Owning.{has_owner}
-use Rattle.world.proofs.Pieced.{id_tells}
+use Rattle.fetched_pages.specs.Meaning.{meaning}
+use Rattle.fetched_pages.proofs.Listing.{listed_meant}
+use Rattle.world.proofs.{Moving.held_is, Moving.held_same, Moving.record_here, Moving.record_elsewhere, Owning.has_owner, Pieced.id_tells}
 
 -- what is kept of each entity has an owner
 pub owned_kept : (m : Meaning Triple) (s : StoreState) (kept : KeptRecords) → IsKept m s kept → (x : EntityId) (t : Triple) → has triple_cmp t (triples_kept m (beside s) kept x) ≡ true → 0 < count_of (counts_in s) t
@@ -105,20 +93,11 @@ pub timed_put : (s s2 : StoreState) (by_two by_two2 : List EntityId) (kept : Kep
 timed_put s s2 by_two by_two2 kept x n h now keeps versions records own y = ⊎_elim
     (λ same.
     subst (λ (z : EntityId). IsTimedHeld (version_at by_two2 z) s2 (beside s2) z (kept_of (map.insert kept x n) z).held) (sym same.1)
-    (subst (λ (r : Record Kept). IsTimedHeld (version_at by_two2 x) s2 (beside s2) x r.held) (sym (kept_here kept x n)) own))
+    (subst (λ (r : Record Kept). IsTimedHeld (version_at by_two2 x) s2 (beside s2) x r.held) (sym (record_here kept x n)) own))
     (λ other.
-    timed_other s s2 by_two by_two2 kept (map.insert kept x n) h now keeps y (kept_other kept x n y other.1) (versions y other.1)
-    (ap (λ (r : Record Kept). held_with (beside s2) r.held) (sym (kept_other kept x n y other.1))
+    timed_other s s2 by_two by_two2 kept (map.insert kept x n) h now keeps y (record_elsewhere kept x n y other.1) (versions y other.1)
+    (ap (λ (r : Record Kept). held_with (beside s2) r.held) (sym (record_elsewhere kept x n y other.1))
     ∙ sym (held_is s2 (map.insert kept x n) y) ∙ ap (λ (r : Record Bytes). r.held) (records y other.1) ∙ held_is s kept y))
-    (id_tells y x)
-
--- the record of another entity than the one that is put in
-pub record_other : (records : Records) (x : EntityId) (r : Record Bytes) (y : EntityId) → y ≢ x → record_of (map.insert records x r) y ≡ record_of records y
-record_other records x r y other = ⊎_elim
-    (λ own. absurd (other own.1))
-    (λ apart.
-    ap (λ o. unwrap_or o blank) (map.get-insert entity_cmp_total records x r y)
-    ∙ ap (λ b. unwrap_or (cond b (Some r) (map.get records y)) blank) apart.0)
     (id_tells y x)
 
 -- of a page that was mapped anew nothing is known

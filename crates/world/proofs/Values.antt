@@ -2,13 +2,11 @@
 use Rattle.std.proofs.Common.{◌≡◌, Bool, true, false, cond, List, [], ◌∷◌, Option, Some, None, is_some, length, refl, sym, ◌∙◌, ap}
 use Rattle.std.specs.Prelude.{map as mapped}
 use Rattle.std.specs.FinMap as map
-use Rattle.std.specs.FinMap.{find}
-use Rattle.std.specs.Ordering.{eq_by_cmp}
+use Rattle.std.specs.{FinMap.find, Ordering.eq_by_cmp}
 use Rattle.std.proofs.lemmas.List.{length-map}
 use Rattle.sorted_sets.proofs.Rising.{same_rising}
 use Rattle.slot_index.proofs.Mapped.{rising_keys}
-use Rattle.entity_model.specs.declared.id.EntityId.{EntityId}
-use Rattle.entity_model.specs.EntityId.{entity_cmp, entity_cmp_total, entity_cmp_same}
+use Rattle.entity_model.specs.{declared.id.EntityId.EntityId, EntityId.entity_cmp, EntityId.entity_cmp_total, EntityId.entity_cmp_same}
 use Rattle.world.specs.Keeping.{with_values}
 
 module _ {X Y : Type 0} where

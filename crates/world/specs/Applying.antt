@@ -1,39 +1,16 @@
 -- The application of one due event.
-use Rattle.std.specs.Prelude.{◌≡◌, ℕ, cond, List, Option, None, Some, IfSome, Result, Ok, Err, ⊤}
-use Rattle.entity_model.specs.declared.id.EntityId.{EntityId}
+use Rattle.std.specs.Prelude.{◌≡◌, ℕ, cond, List, Option, None, Some, Result, Ok, Err, ⊤}
 use Rattle.entity_model.specs.declared.event.Event.{Event}
-use Rattle.entity_state.specs.declared.state.State.{State}
-use Rattle.entity_state.specs.declared.record.Record.{Record}
-use Rattle.entity_state.specs.State.{state_after, is_deleted}
-use Rattle.entity_state.specs.Record.{held_revision, wants}
-use Rattle.entity_json.specs.Document.{unfit_of}
+use Rattle.entity_state.specs.{declared.record.Held.Held, declared.state.Mode.Mode, declared.state.State.State}
+use Rattle.entity_state.specs.{declared.record.Record.Record, State.state_after, State.is_deleted, Record.held_revision, Record.wants}
 use Rattle.side_output.specs.declared.entry.Cause.{Cause}
-use Rattle.side_output.specs.declared.entry.Cause.TheVariants.{Missing, Failed, Unfit as NoDocument}
 use Rattle.revisions.specs.Revisions.{Contents, counted}
-use Rattle.wq_io.specs.Streams.{Rose}
 use Rattle.reorder_buffer.specs.Buffered.{first_due, after_dropping}
-use Rattle.replay_model.specs.Records.{Bytes, record_of}
-use Rattle.replay_model.specs.Replies.{HasUnfit}
-use Rattle.replay_model.specs.Play.{apply}
-use Rattle.replay_model.specs.ReplayState.{ReplayState}
-use Rattle.world.specs.declared.applied.Applied.{Applied}
-use Rattle.world.specs.declared.applied.Outcome.{Outcome}
+use Rattle.replay_model.specs.{Records.Bytes, Records.record_of, Play.apply, ReplayState.ReplayState}
+pub use Rattle.fetched_pages.specs.Reply.{IsReply}
+use Rattle.fetched_pages.specs.Reply.{ShowsReply}
+use Rattle.world.specs.{declared.applied.Applied.Applied, declared.applied.Outcome.Outcome}
 use Rattle.world.specs.declared.applied.Outcome.TheVariants.{Same, Stored, Dropped, Sided}
-
--- the reply says whether the bytes are a document of x
-abbrev pub IsJudged : EntityId → Bytes → Result Bytes Cause → Type 0
-IsJudged x bytes (Ok document) = (unfit_of x bytes ≡ None) × (document ≡ bytes)
-IsJudged x bytes (Err Missing) = ⊥
-IsJudged x bytes (Err Failed) = ⊥
-IsJudged x bytes (Err (NoDocument unfit)) = unfit_of x bytes ≡ Some unfit
-
--- the reply is one that a source may give to the fetch of a revision of x: a document of x, or why there is none; if the source tells what
--- it has, the reply agrees with it unless the fetch failed
-abbrev pub IsReply : Option Contents → List ℕ → EntityId → ℕ → Result Bytes Cause → Type 0
-IsReply known folder x r (Ok bytes) = (unfit_of x bytes ≡ None) × IfSome known (λ there. there folder r ≡ Some bytes)
-IsReply known folder x r (Err Missing) = IfSome known (λ there. there folder r ≡ None)
-IsReply known folder x r (Err Failed) = ⊤
-IsReply known folder x r (Err (NoDocument unfit)) = IfSome known (λ there. HasUnfit unfit_of x unfit (there folder r))
 
 -- what a fetch's reply leads to
 abbrev pub outcome_of_reply : Result Bytes Cause → Outcome
@@ -43,6 +20,14 @@ outcome_of_reply (Err cause) = Sided cause
 -- what an event leads to, by the state after it and what was held
 abbrev pub outcome_of : State → Option ℕ → Result Bytes Cause → Outcome
 outcome_of s held reply = cond (wants s held) (outcome_of_reply reply) (cond (is_deleted s.mode) Dropped Same)
+
+-- what is held if nothing was fetched: nothing of a page that was deleted, and what was held otherwise
+abbrev pub unless_deleted : Mode → Option (Held Bytes) → Option (Held Bytes)
+unless_deleted mode held = cond (is_deleted mode) None held
+
+-- what an event leads to where nothing was fetched
+abbrev pub unfetched_outcome : Mode → Outcome
+unfetched_outcome mode = cond (is_deleted mode) Dropped Same
 
 -- what an event leads to, by the record before it
 abbrev pub outcome_after : Record Bytes → Event → Result Bytes Cause → Outcome
@@ -61,9 +46,7 @@ abbrev pub IsShown : Outcome → ℕ → ℕ → ℕ → ℕ → Type 0
 IsShown Same misses misses_now faults faults_now = ⊤
 IsShown Stored misses misses_now faults faults_now = ⊤
 IsShown Dropped misses misses_now faults faults_now = ⊤
-IsShown (Sided Missing) misses misses_now faults faults_now = Rose misses misses_now
-IsShown (Sided Failed) misses misses_now faults faults_now = Rose faults faults_now
-IsShown (Sided (NoDocument unfit)) misses misses_now faults faults_now = ⊤
+IsShown (Sided cause) misses misses_now faults faults_now = ShowsReply (Err cause) misses misses_now faults faults_now
 
 -- the count of calls after the event: one more where its outcome shows a fetch
 abbrev pub calls_after : Outcome → ℕ → ℕ

@@ -1,13 +1,10 @@
 -- What a step changed of the stored triples.
 use Rattle.std.specs.Prelude.{◌≡◌, List, Option, None, Some}
 use Rattle.sorted_sets.specs.Rising.{difference}
-use Rattle.rdf_term.specs.declared.triple.Triple.{Triple}
-use Rattle.rdf_term.specs.Order.{triple_cmp}
+use Rattle.rdf_term.specs.{declared.triple.Triple.Triple, Order.triple_cmp}
 use Rattle.entity_model.specs.declared.id.EntityId.{EntityId}
-use Rattle.triple_store.specs.declared.telling.Change.{Change}
-use Rattle.triple_store.specs.declared.telling.Telling.{Telling}
-use Rattle.triple_store.specs.declared.telling.Telling.TheVariants.{Change as TheChange}
-use Rattle.triple_store.specs.Telling.{AreLinesOf}
+use Rattle.triple_store.specs.{declared.telling.Change.Change, declared.telling.Telling.Telling}
+use Rattle.triple_store.specs.{declared.telling.Telling.TheVariants.Change as TheChange, Telling.AreLinesOf}
 use Rattle.world.specs.declared.applied.Remapping.{Remapping}
 
 -- the lines of the triples that are stored after a step and weren't before it, and of those that were stored before it and aren't after it

@@ -2,20 +2,15 @@
 use Rattle.std.specs.Prelude.{ℤ, ℕ, Bool, List, Option, refl}
 use Rattle.std.specs.Coded.{Coded, code_by, coded×, coded_ℕ, coded_ℤ, coded_bool, coded_list, coded_option}
 use Rattle.std.specs.FinMap as map
-use Rattle.entity_model.specs.declared.id.EntityId.{EntityId}
-use Rattle.entity_model.specs.declared.mapping.MappingVersion.{MappingVersion}
+use Rattle.entity_model.specs.{declared.id.EntityId.EntityId, declared.mapping.MappingVersion.MappingVersion, declared.event.Event.Event}
 use Rattle.entity_model.specs.contracts.id.EntityId as entity_id
 use Rattle.entity_model.specs.contracts.mapping.MappingVersion as mapping_version
 use Rattle.entity_state.specs.Tabled.{record_code}
 use Rattle.side_output.specs.declared.entry.Entry.{Entry}
 use Rattle.side_output.specs.contracts.entry.Entry as entry
-use Rattle.replay_model.specs.Records.{Records}
-use Rattle.replay_model.specs.Play.{Played}
-use Rattle.replay_model.specs.ReplayState.{ReplayState}
+use Rattle.replay_model.specs.{Records.Records, Play.Played, ReplayState.ReplayState}
 use Rattle.reorder_buffer.specs.Buffered.{Buffered}
-use Rattle.world.specs.Holders.{ByVersion}
-use Rattle.world.specs.WorldState.{HoldingsState, WorldState}
-use Rattle.entity_model.specs.declared.event.Event.{Event}
+use Rattle.world.specs.{Holders.ByVersion, WorldState.HoldingsState, WorldState.WorldState}
 use Rattle.entity_model.specs.contracts.event.Event as event
 
 -- records and side output

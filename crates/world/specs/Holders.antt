@@ -1,11 +1,8 @@
 -- The entities that hold a document, by the version that it is mapped by.
 use Rattle.std.specs.Prelude.{◌≡◌, true, false, ◌||◌, List, is_some}
-use Rattle.std.specs.Ordering.{eq_by_cmp}
-use Rattle.std.specs.BTreeSet.{insert_key}
-use Rattle.std.specs.Set.{remove_key}
+use Rattle.std.specs.{Ordering.eq_by_cmp, BTreeSet.insert_key, Set.remove_key}
 use Rattle.sorted_sets.specs.Rising.{has, IsRising}
-use Rattle.entity_model.specs.declared.id.EntityId.{EntityId}
-use Rattle.entity_model.specs.declared.mapping.MappingVersion.{MappingVersion}
+use Rattle.entity_model.specs.{declared.id.EntityId.EntityId, declared.mapping.MappingVersion.MappingVersion}
 use Rattle.entity_model.specs.declared.mapping.MappingVersion.TheVariants.{One, Two}
 use Rattle.entity_model.specs.EntityId.{entity_cmp}
 use Rattle.world.specs.Keeping.{KeptRecords, kept_of}

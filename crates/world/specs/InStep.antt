@@ -1,18 +1,15 @@
 -- The store in step with what is kept of the entities, where each document means what a function says.
 use Rattle.std.specs.Prelude.{◌≡◌, true, List, Option, Some, is_some}
-use Rattle.rdf_term.specs.declared.triple.Triple.{Triple}
-use Rattle.rdf_term.specs.Order.{triple_cmp}
+use Rattle.rdf_term.specs.{declared.triple.Triple.Triple, Order.triple_cmp}
 use Rattle.entity_model.specs.declared.id.EntityId.{EntityId}
 use Rattle.text_region.specs.declared.piece.Piece.{Piece}
 use Rattle.triple_store.specs.Counts.{Counts, count_of}
 use Rattle.triple_store.specs.StoreState.{AreKeysOf, IsSound, StoreState, beside, counts_in}
-use Rattle.replay_model.specs.Records.{Records}
-use Rattle.replay_model.specs.Union.{Meaning, owners, triples_held}
-use Rattle.replay_model.specs.Versions.{meaning_by}
+use Rattle.replay_model.specs.{Records.Records, Union.Meaning, Union.owners, Union.triples_held, Versions.meaning_by}
 use Rattle.world.specs.Holders.{AreBy, ByVersion}
 use Rattle.world.specs.Keeping.{KeptRecords, PieceTexts, held_with, kept_of, keys_held, piece_at, seen}
-use Rattle.world.specs.Meaning.{meaning}
 use Rattle.world.specs.Timed.{AreTimed}
+use Rattle.fetched_pages.specs.Meaning.{meaning}
 
 -- the count of each triple is the number of the entities that hold it
 pub record CountsOwners (m : Meaning Triple) (counts : Counts) (records : Records) : Type 0 where

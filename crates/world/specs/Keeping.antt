@@ -2,16 +2,11 @@
 use Rattle.std.specs.Prelude.{◌≡◌, List, [], Option, None, Some, unwrap_or}
 use Rattle.std.specs.Prelude.{map as mapped}
 use Rattle.std.specs.FinMap as map
-use Rattle.entity_model.specs.declared.id.EntityId.{EntityId}
-use Rattle.entity_model.specs.EntityId.{entity_cmp}
-use Rattle.entity_state.specs.declared.record.Held.{Held}
-use Rattle.entity_state.specs.declared.record.Record.{Record}
-use Rattle.entity_state.specs.Record.{blank}
+use Rattle.entity_model.specs.{declared.id.EntityId.EntityId, EntityId.entity_cmp}
+use Rattle.entity_state.specs.{declared.record.Held.Held, declared.record.Record.Record, Record.blank}
 use Rattle.text_region.specs.declared.piece.Piece.{Piece}
-use Rattle.slot_keys.specs.declared.key.Key.{Key}
-use Rattle.slot_keys.specs.declared.keys.Keys.{Keys}
-use Rattle.triple_store.specs.StoreState.{StoreState, beside}
-use Rattle.triple_store.specs.Stored.{Changes}
+use Rattle.slot_keys.specs.{declared.key.Key.Key, declared.keys.Keys.Keys}
+use Rattle.triple_store.specs.{StoreState.StoreState, StoreState.beside, Stored.Changes}
 use Rattle.replay_model.specs.Records.{Bytes, Records}
 use Rattle.world.specs.declared.kept.Kept.{Kept}
 

@@ -2,17 +2,12 @@
 use Rattle.std.specs.Prelude.{◌≡◌, ℕ, true, List, Option, Some, is_some, ◌⊎◌}
 use Rattle.std.specs.List.{flat_map}
 use Rattle.sorted_sets.specs.Rising.{has}
-use Rattle.rdf_term.specs.declared.term.Term.{Term}
-use Rattle.rdf_term.specs.declared.triple.Triple.{Triple}
-use Rattle.rdf_term.specs.Order.{term_cmp, triple_cmp}
-use Rattle.rdf_term.specs.Text.{term_text}
+use Rattle.rdf_term.specs.{declared.term.Term.Term, declared.triple.Triple.Triple, Order.term_cmp, Order.triple_cmp, Text.term_text}
 use Rattle.entity_model.specs.declared.id.EntityId.{EntityId}
 use Rattle.entity_state.specs.declared.record.Held.{Held}
-use Rattle.text_region.specs.declared.piece.Piece.{Piece}
-use Rattle.text_region.specs.Region.{Texts, bytes_of}
+use Rattle.text_region.specs.{declared.piece.Piece.Piece, Region.Texts, Region.bytes_of}
 use Rattle.triple_store.specs.Room.{terms_of}
-use Rattle.replay_model.specs.Records.{Bytes, Records, record_of}
-use Rattle.replay_model.specs.Union.{Meaning, union}
+use Rattle.replay_model.specs.{Records.Bytes, Records.Records, Records.record_of, Union.Meaning, Union.union}
 
 -- the terms of the triples of all that is held
 abbrev pub terms_in : Meaning Triple → Records → List Term

@@ -2,19 +2,14 @@
 use Rattle.std.specs.Prelude.{◌≡◌, Bool, false, cond, not, ◌&&◌, ◌||◌, List, Option, None, Some, is_none}
 use Rattle.std.specs.FinMap as map
 use Rattle.std.specs.List.{list_any}
-use Rattle.entity_model.specs.declared.id.EntityId.{EntityId}
-use Rattle.entity_model.specs.declared.mapping.MappingVersion.{MappingVersion}
+use Rattle.entity_model.specs.{declared.id.EntityId.EntityId, declared.mapping.MappingVersion.MappingVersion}
 use Rattle.entity_model.specs.declared.mapping.MappingVersion.TheVariants.{One}
-use Rattle.entity_state.specs.declared.record.Held.{Held}
-use Rattle.entity_state.specs.declared.record.Record.{Record}
-use Rattle.entity_state.specs.State.{is_kept}
+use Rattle.entity_state.specs.{declared.record.Held.Held, declared.record.Record.Record, State.is_kept}
 use Rattle.entity_state.specs.Record.{held_revision, is_held}
 use Rattle.entity_json.specs.Document.{unfit_of}
 use Rattle.side_output.specs.declared.entry.Entry.{Entry}
-use Rattle.replay_model.specs.Entries.{is_of_revision, is_open_by, is_revision_of}
-use Rattle.replay_model.specs.Records.{Bytes, is_settled}
-use Rattle.replay_model.specs.Replies.{HoldsDocument}
-use Rattle.replay_model.specs.Versions.{with_version}
+use Rattle.replay_model.specs.{Entries.is_of_revision, Entries.is_open_by, Entries.is_revision_of, Records.Bytes, Records.is_settled}
+use Rattle.replay_model.specs.{Replies.HoldsDocument, Versions.with_version}
 use Rattle.world.specs.WorldState.{WorldState}
 
 -- whether nothing is held of a page that isn't kept, and the side output tells of the revision that is wanted, unless it is held

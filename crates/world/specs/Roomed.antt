@@ -1,22 +1,15 @@
 -- How many terms the store needs room for.
 use Rattle.std.specs.Prelude.{◌≡◌, ℕ, true, ◌<◌, ◌≤◌, List, [], ◌++◌, Option, Some, Result, Ok, Err}
 use Rattle.std.specs.List.{flat_map}
-use Rattle.rdf_term.specs.declared.triple.Triple.{Triple}
-use Rattle.rdf_term.specs.Order.{triple_cmp}
-use Rattle.entity_model.specs.declared.id.EntityId.{EntityId}
-use Rattle.entity_model.specs.declared.event.Event.{Event}
-use Rattle.entity_model.specs.declared.mapping.MappingVersion.{MappingVersion}
-use Rattle.entity_state.specs.Standing.{standing_after, standing_of, standing_wants}
-use Rattle.entity_state.specs.State.{state_after}
+use Rattle.rdf_term.specs.{declared.triple.Triple.Triple, Order.triple_cmp}
+use Rattle.entity_model.specs.{declared.id.EntityId.EntityId, declared.event.Event.Event, declared.mapping.MappingVersion.MappingVersion}
+use Rattle.entity_state.specs.{Standing.standing_after, Standing.standing_of, Standing.standing_wants, State.state_after}
 use Rattle.reorder_buffer.specs.Buffered.{first_due}
 use Rattle.revisions.specs.Revisions.{Contents}
 use Rattle.side_output.specs.declared.entry.Cause.{Cause}
 use Rattle.triple_store.specs.Room.{distinct, terms_of}
-use Rattle.replay_model.specs.Records.{Bytes, Records, record_of}
-use Rattle.replay_model.specs.Union.{Meaning, union}
-use Rattle.replay_model.specs.Versions.{meaning_by}
-use Rattle.world.specs.Applying.{IsReply}
-use Rattle.world.specs.Meaning.{meaning}
+use Rattle.replay_model.specs.{Records.Bytes, Records.Records, Records.record_of, Union.Meaning, Union.union, Versions.meaning_by}
+use Rattle.fetched_pages.specs.{Reply.IsReply, Meaning.meaning}
 use Rattle.world.specs.WorldState.{HoldingsState, WorldState}
 
 -- how many distinct terms the triples of all that is held have together with other triples

@@ -1,55 +1,19 @@
--- The graph that a page goes to, and what is given back of a page that was stored or remapped.
-use Rattle.std.specs.Prelude.{◌≡◌, ℕ, ⊤, List, Option, None, Some, Result, Ok, Err, length, option_map}
+-- What is given back of a page that was stored or remapped.
+use Rattle.std.specs.Prelude.{◌≡◌, ℕ, ⊤, List, Option, None, Some, Result, Ok, Err, option_map}
 use Rattle.std.specs.List.{AllByRecursion}
 use Rattle.sorted_sets.specs.Rising.{sorted}
-use Rattle.rdf_term.specs.declared.triple.Triple.{Triple}
-use Rattle.rdf_term.specs.Fit.{HasFitAndShortTerms}
-use Rattle.rdf_term.specs.Order.{triple_cmp}
-use Rattle.entity_json.specs.Document.{document_of}
-use Rattle.entity_model.specs.declared.document.Document.{Document}
-use Rattle.entity_model.specs.declared.id.EntityId.{EntityId}
-use Rattle.entity_model.specs.declared.mapping.MappingVersion.{MappingVersion}
+use Rattle.rdf_term.specs.{declared.triple.Triple.Triple, Fit.HasFitAndShortTerms, Order.triple_cmp}
+use Rattle.entity_model.specs.{declared.id.EntityId.EntityId, declared.mapping.MappingVersion.MappingVersion}
 use Rattle.entity_state.specs.declared.record.Held.{Held}
-use Rattle.replay_model.specs.Records.{Bytes}
-use Rattle.replay_model.specs.Union.{triples_held}
+use Rattle.replay_model.specs.{Records.Bytes, Union.triples_held}
 use Rattle.side_output.specs.declared.entry.Cause.{Cause}
 use Rattle.graph_routes.specs.declared.routes.Route.{Route}
-use Rattle.graph_routes.specs.Routing.{route_of}
 use Rattle.world.specs.declared.applied.Outcome.{Outcome}
 use Rattle.world.specs.declared.applied.Outcome.TheVariants.{Same, Stored, Dropped, Sided}
 use Rattle.world.specs.declared.applied.RoutedPage.{RoutedPage}
-use Rattle.world.specs.declared.fetching.FetchedPage.{FetchedPage}
-use Rattle.world.specs.declared.fetching.FetchedPage.TheVariants.{Whole, Changed}
-use Rattle.world.specs.Fetched.{bytes_of}
-use Rattle.world.specs.Meaning.{meaning}
-
--- the graph that a document is routed to; the last graph where there is none
-abbrev pub route_if : List Route → Option Document → ℕ
-route_if routes None = length routes
-route_if routes (Some document) = route_of routes document
-
--- the graph that the bytes of a page of x are routed to: that of their document
-abbrev pub route_of_page : List Route → EntityId → Bytes → ℕ
-route_of_page routes x bytes = route_if routes (document_of x bytes)
-
--- the same, where there are routes
-abbrev pub route_by : Option (List Route) → EntityId → Bytes → Option ℕ
-route_by routes x bytes = option_map (λ (r : List Route). route_of_page r x bytes) routes
-
--- the graph that is told of a page: none is of one that has those triples alone that it changes
-abbrev pub graph_of : FetchedPage → Option ℕ
-graph_of (Whole page) = page.graph
-graph_of (Changed page) = None
-
--- a reply that has a page has its graph
-abbrev pub IsReplyRouted : Option (List Route) → EntityId → Result FetchedPage Cause → Type 0
-IsReplyRouted routes x (Ok page) = graph_of page ≡ route_by routes x (bytes_of page)
-IsReplyRouted routes x (Err cause) = ⊤
-
--- the same, where a fetch was made
-abbrev pub AreRouted : Option (List Route) → EntityId → Option (Result FetchedPage Cause) → Type 0
-AreRouted routes x None = ⊤
-AreRouted routes x (Some reply) = IsReplyRouted routes x reply
+use Rattle.fetched_pages.specs.declared.fetching.FetchedPage.{FetchedPage}
+use Rattle.fetched_pages.specs.declared.fetching.FetchedPage.TheVariants.{Whole, Changed}
+use Rattle.fetched_pages.specs.{Meaning.meaning, Routing.route_of_page}
 
 -- the triples of a page with the graph that it is routed to
 abbrev pub with_route : Option ℕ → List Triple → Option RoutedPage

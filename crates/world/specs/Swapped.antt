@@ -6,24 +6,14 @@ use Rattle.page_rdf.specs.declared.counts.Counts.{Counts}
 use Rattle.entity_rdf.specs.Changing.{kept_list}
 use Rattle.replay_model.specs.Records.{Bytes}
 use Rattle.slot_keys.specs.declared.key.Key.{Key}
-use Rattle.term_pool.specs.declared.fault.PoolFault.{PoolFault}
-use Rattle.term_pool.specs.declared.fault.PoolFault.TheVariants.{Full}
-use Rattle.triple_store.specs.declared.updates.Exchange.{Exchange}
-use Rattle.triple_store.specs.declared.telling.Telling.{Telling}
-use Rattle.triple_store.specs.Counts.{Exchanges}
-use Rattle.triple_store.specs.Updates.{AreTimesIfKnown}
-use Rattle.triple_store.specs.Room.{room_for}
-use Rattle.triple_store.specs.StoreState.{AreKeysOf, StoreState, counts_in, limit_of}
-use Rattle.triple_store.specs.Telling.{TellsIf}
-use Rattle.world.specs.declared.comparing.ChangedPage.{ChangedPage}
-use Rattle.world.specs.declared.fetching.FetchedPage.{FetchedPage}
-use Rattle.world.specs.declared.fetching.FetchedPage.TheVariants.{Whole, Changed}
-use Rattle.world.specs.declared.fetching.Wanted.{Wanted}
-use Rattle.world.specs.declared.swapping.PageExchange.{PageExchange}
-use Rattle.world.specs.Compared.{AreChanged}
-use Rattle.world.specs.Fetched.{IsPageOf}
-use Rattle.world.specs.Meaning.{meaning}
-use Rattle.world.specs.Timed.{IsTimed}
+use Rattle.term_pool.specs.{declared.fault.PoolFault.PoolFault, declared.fault.PoolFault.TheVariants.Full}
+use Rattle.triple_store.specs.{declared.updates.Exchange.Exchange, declared.telling.Telling.Telling, Counts.Exchanges}
+use Rattle.triple_store.specs.{Updates.AreTimesIfKnown, Room.room_for}
+use Rattle.triple_store.specs.{StoreState.AreKeysOf, StoreState.StoreState, StoreState.counts_in, StoreState.limit_of, Telling.TellsIf}
+use Rattle.fetched_pages.specs.{declared.comparing.ChangedPage.ChangedPage, declared.fetching.FetchedPage.FetchedPage}
+use Rattle.fetched_pages.specs.declared.fetching.FetchedPage.TheVariants.{Whole, Changed}
+use Rattle.fetched_pages.specs.{declared.fetching.Wanted.Wanted, Compared.AreChanged, Fetched.IsPageOf, Meaning.meaning}
+use Rattle.world.specs.{declared.swapping.PageExchange.PageExchange, Timed.IsTimed}
 
 -- the keys and the times are those of the triples that are kept of an older page of x, if the times are known, and it is known what the
 -- wanted page changes of that one

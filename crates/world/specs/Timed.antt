@@ -2,19 +2,15 @@
 use Rattle.std.specs.Prelude.{ℕ, ⊤, List, [], Option, None, Some, IfSome, option_map, unwrap_or}
 use Rattle.rdf_term.specs.declared.triple.Triple.{Triple}
 use Rattle.entity_json.specs.Document.{document_of}
-use Rattle.entity_model.specs.declared.id.EntityId.{EntityId}
-use Rattle.entity_model.specs.declared.mapping.MappingVersion.{MappingVersion}
+use Rattle.entity_model.specs.{declared.id.EntityId.EntityId, declared.mapping.MappingVersion.MappingVersion}
 use Rattle.page_rdf.specs.declared.counts.Counts.{Counts}
 use Rattle.entity_state.specs.declared.record.Held.{Held}
-use Rattle.replay_model.specs.Records.{Bytes}
-use Rattle.replay_model.specs.Versions.{version_at}
+use Rattle.replay_model.specs.{Records.Bytes, Versions.version_at}
 use Rattle.slot_keys.specs.declared.key.Key.{Key}
-use Rattle.triple_store.specs.Updates.{AreTimesIfKnown}
-use Rattle.triple_store.specs.StoreState.{StoreState, beside}
-use Rattle.world.specs.declared.kept.Kept.{Kept}
-use Rattle.world.specs.declared.kept.PageTimes.{PageTimes}
+use Rattle.triple_store.specs.{Updates.AreTimesIfKnown, StoreState.StoreState, StoreState.beside}
+use Rattle.world.specs.{declared.kept.Kept.Kept, declared.kept.PageTimes.PageTimes}
 use Rattle.world.specs.Keeping.{KeptRecords, PieceTexts, kept_of}
-use Rattle.world.specs.Listed.{IsListed}
+use Rattle.fetched_pages.specs.Listed.{IsListed}
 
 -- the bytes are the page of an item or a property that has the counts, and the times are those of its triples, by their keys
 pub record IsTimed (version : MappingVersion) (store : StoreState) (x : EntityId) (rev : ℕ) (bytes : Bytes) (keys : List Key) (known : PageTimes) : Type 0 where

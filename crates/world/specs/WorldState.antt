@@ -1,19 +1,15 @@
 -- What contracts see of a world, and what becomes of the versions by which its documents are mapped.
 use Rattle.std.specs.Prelude.{◌≡◌, ℕ, Bool, true, false, cond, List, [], ◌∷◌, Option, None, Some, filter}
 use Rattle.sorted_sets.specs.Rising.{has, IsRising}
-use Rattle.rdf_term.specs.declared.triple.Triple.{Triple}
-use Rattle.rdf_term.specs.Order.{triple_cmp}
-use Rattle.entity_model.specs.declared.id.EntityId.{EntityId}
-use Rattle.entity_model.specs.declared.mapping.MappingVersion.{MappingVersion}
+use Rattle.rdf_term.specs.{declared.triple.Triple.Triple, Order.triple_cmp}
+use Rattle.entity_model.specs.{declared.id.EntityId.EntityId, declared.mapping.MappingVersion.MappingVersion}
 use Rattle.entity_model.specs.declared.mapping.MappingVersion.TheVariants.{One, Two}
 use Rattle.entity_model.specs.EntityId.{entity_cmp}
 use Rattle.side_output.specs.declared.entry.Entry.{Entry}
-use Rattle.replay_model.specs.Records.{Records, record_of}
-use Rattle.replay_model.specs.Play.{Played}
-use Rattle.replay_model.specs.ReplayState.{ReplayState}
+use Rattle.replay_model.specs.{Records.Records, Records.record_of, Play.Played, ReplayState.ReplayState}
 use Rattle.replay_model.specs.Union.{Meaning, triples_held, union}
 use Rattle.replay_model.specs.Versions.{holders, is_holder, meaning_by, version_at, with_version}
-use Rattle.world.specs.Meaning.{meaning}
+use Rattle.fetched_pages.specs.Meaning.{meaning}
 use Rattle.world.specs.declared.applied.Outcome.{Outcome}
 use Rattle.world.specs.declared.applied.Outcome.TheVariants.{Same, Stored, Dropped, Sided}
 

@@ -1,24 +1,25 @@
 // An event is applied to what its entity holds, and to the side output.
 
 ghost use Rattle.std.specs.Prelude.{◌≡◌, ◌<◌, ◌≤◌, Err, IfOk, OnErr, OnOk, is_some};
-ghost use Rattle.term_pool.specs.declared.fault.PoolFault.TheVariants.{Full};
+ghost use Rattle.term_pool.specs.declared.fault.PoolFault.TheVariants.{Full, OutOfMemory as StoreOutOfMemory};
 ghost use Rattle.entity_state.specs.Standing.{standing_after, standing_of, standing_wants};
 ghost use Rattle.replay_model.specs.{Play.apply as played, Records.record_of, Versions.meaning_by};
-ghost use Rattle.world.specs.{Applying.outcome_after, Changing.Tells, Fetched.AreMeant, Fetched.reply_or_any, Meaning.meaning};
-ghost use Rattle.world.specs.Roomed.{HasRoom, Overfills, room_with, triples_of_reply};
-ghost use Rattle.world.specs.Routed.{routed_by, routed_page};
+ghost use Rattle.fetched_pages.specs.{Fetched.AreMeant, Fetched.reply_or_any, Meaning.meaning};
+ghost use Rattle.world.specs.{Applying.outcome_after, Changing.Tells, Refused.TakesMemory};
+ghost use Rattle.world.specs.{Roomed.HasRoom, Roomed.Overfills, Roomed.room_with, Roomed.triples_of_reply, Routed.routed_by, Routed.routed_page};
 ghost use Rattle.world.specs.WorldState.{AreHolders, played_of, by_two_after, stored_in};
 
 use crate::applied::{Effect, Handling, Outcome, RoutedPage};
-use crate::fetching::{FetchedPage, Page, Reply};
 use crate::holdings::Holdings;
 use entity_model::Event;
+use fetched_pages::{FetchedPage, Page, Reply, Wanted};
 use side_output::{Entry, Side};
 use triple_store::StoreFault;
 
 impl Holdings {
     /// Applies an event. If it wants a fetch, the reply is given, and its page is mapped by the version. Tells the change of the stored
-    /// triples if asked to. After a fault nothing has changed.
+    /// triples if asked to. After a fault nothing has changed. It takes memory only for a page, for an entity's first record, for an entry of the
+    /// side output, and to tell what is dropped.
     pub fn apply(
         &mut self,
         side: &mut Side,
@@ -41,39 +42,46 @@ impl Holdings {
             (standing_after (standing_of (record_of self.old.records event.entity)) event).state.rev (reply_or_any reply) }
         ensures within { OnOk result (room_with (meaning_by meaning self.old.by_two) self.old.records
             (triples_of_reply how.version event.entity (standing_after (standing_of (record_of self.old.records event.entity)) event).state.rev (reply_or_any reply)) ≤ self.old.limit) }
-        ensures held { HasRoom (meaning_by meaning self.new.by_two) self.new.limit self.new.records }
-        ensures holders { AreHolders self.new.by_two self.new.records }
         ensures err { OnErr result (self.new ≡ self.old) }
         ensures err_entries { OnErr result (side.new.entries ≡ side.old.entries) }
+        ensures refused { result ≡ Err StoreOutOfMemory → TakesMemory how.telling self.old.records event }
     {
         let after = self.standing(event.entity).after(&event);
-        if side.make_room().is_err() {
-            drop(reply);
-            return Err(StoreFault::OutOfMemory);
-        }
         match reply {
-            Some(Ok(page)) => match self.hold(event.entity, after, &page, how) {
-                Ok(change) => Ok(Effect {
-                    outcome: Outcome::Stored,
-                    change,
-                    routed: routed(page),
-                }),
-                Err(refused) => {
-                    drop(page);
-                    Err(refused)
+            Some(Ok(page)) => {
+                let wanted = Wanted {
+                    id: event.entity,
+                    rev: after.state.rev,
+                    version: how.version,
+                };
+                match self.hold(wanted, after, &page, how.telling) {
+                    Ok(change) => Ok(Effect {
+                        outcome: Outcome::Stored,
+                        change,
+                        routed: routed(page),
+                    }),
+                    Err(refused) => {
+                        drop(page);
+                        Err(refused)
+                    }
                 }
-            },
-            Some(Err(cause)) => match self.keep(event.entity, after) {
-                Ok(()) => {
-                    let _ = side.push(Entry::Revision(event, after.state.rev, cause));
-                    Ok(Effect {
-                        outcome: Outcome::Sided(cause),
-                        change: None,
-                        routed: None,
-                    })
+            }
+            Some(Err(cause)) => {
+                if side.make_room().is_err() {
+                    return Err(StoreFault::OutOfMemory);
                 }
-                Err(_) => Err(StoreFault::OutOfMemory),
-            },
+                match self.keep(event.entity, after) {
+                    Ok(()) => {
+                        let _ = side.push(Entry::Revision(event, after.state.rev, cause));
+                        Ok(Effect {
+                            outcome: Outcome::Sided(cause),
+                            change: None,
+                            routed: None,
+                        })
+                    }
+                    Err(_) => Err(StoreFault::OutOfMemory),
+                }
+            }
             None => match self.settle(event.entity, after, how.telling) {
                 Ok(effect) => Ok(effect),
                 Err(_) => Err(StoreFault::OutOfMemory),

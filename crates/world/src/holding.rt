@@ -1,70 +1,78 @@
 // Pages that come, go or stay, and the store in step with them.
 
-ghost use Rattle.std.specs.Prelude.{◌≡◌, ◌<◌, ◌≤◌, true, None, Some, Ok, Err, IfSome, IfOk, IsSome, IsTrue, OnErr, OnOk};
+ghost use Rattle.std.specs.Prelude.{◌≡◌, ◌⊎◌, ◌<◌, ◌≤◌, false, None, Some, Ok, Err, IfSome, IfOk, IsSome, IsTrue, OnErr, OnOk};
 ghost use Rattle.std.specs.FinMap as map;
 ghost use Rattle.rdf_term.specs.declared.triple.Triple.{Triple};
 ghost use Rattle.term_pool.specs.declared.fault.PoolFault.TheVariants.{Full};
 ghost use Rattle.entity_state.specs.Table.{has_room};
 ghost use Rattle.slot_keys.specs.declared.key.Key.{Key as TheKey};
+ghost use Rattle.triple_store.specs.declared.telling.Telling.TheVariants.{Change as TheChange};
 ghost use Rattle.triple_store.specs.StoreState.{HasKey, IsSound, beside, counts_in, limit_of};
 ghost use Rattle.entity_model.specs.declared.mapping.MappingVersion.TheVariants.{One};
 ghost use Rattle.replay_model.specs.{Records.record_of, Versions.meaning_by, Versions.with_version};
-ghost use Rattle.world.specs.{Changing.Tells, Fetched.IsFetched, Fetched.bytes_of, Keeping.FreesPiece, Keeping.kept_of, Keeping.piece_at};
-ghost use Rattle.world.specs.{Meaning.meaning, Roomed.HasRoom, Roomed.room_with, Standing.unfetched_outcome, Standing.unless_deleted};
-ghost use Rattle.world.specs.WorldState.{AreHolders, by_two_after, stored_in};
+ghost use Rattle.fetched_pages.specs.{Fetched.IsFetched, Fetched.bytes_of, Meaning.meaning};
+ghost use Rattle.world.specs.{Changing.Tells, Keeping.FreesPiece, Keeping.kept_of, Keeping.piece_at};
+ghost use Rattle.world.specs.{Applying.unfetched_outcome, Applying.unless_deleted, Refused.TellsDropped, Roomed.room_with};
+ghost use Rattle.world.specs.WorldState.{by_two_after, stored_in};
 
-use crate::applied::{Effect, Handling, Outcome};
-use crate::fetching::FetchedPage;
+use crate::applied::{Effect, Outcome};
 use crate::holders::other;
 use crate::holdings::{Holdings, make_room};
-use crate::kept::{Kept, had, keys_of};
-use crate::swapping::{PageExchange, SwapSetting, exchange_page};
+use crate::kept::{Kept, keys_of, times_of};
+use crate::swapping::{Had, PageExchange, SwapSetting, exchange_page};
 use entity_model::{EntityId, MappingVersion};
 use entity_state::{Held, Mode, Record, Standing, Table};
+use fetched_pages::{FetchedPage, Wanted};
 use rdf_term::OutOfMemory;
 use triple_store::{Change, Store, StoreFault, Telling, Uncounted};
 
 impl Holdings {
-    /// Sets the record of an entity, which holds this page from now on, by the version that it is mapped by, and tells the change of the
+    /// Sets the record of an entity, which holds the page of the wanted revision from now on, and tells the change of the
     /// stored triples if asked to. After a fault nothing has changed. The fault is `Full` if its triples, with those of all that is held,
     /// have more distinct terms than the limit. If the page says what it changes of the held one, the store exchanges that alone.
     pub fn hold(
         &mut self,
-        id: EntityId,
+        wanted: Wanted,
         after: Standing,
         page: &FetchedPage,
-        how: Handling,
+        telling: Telling,
     ) -> Result<Option<Change>, StoreFault>
-        requires { IsFetched self.old.records self.old.by_two how.version id after.state.rev page.now }
-        ensures ok { OnOk result (self.new.records ≡ map.insert self.old.records id (record {
+        requires { IsFetched self.old.records self.old.by_two wanted.version wanted.id wanted.rev page.now }
+        ensures ok { OnOk result (self.new.records ≡ map.insert self.old.records wanted.id (record {
           state = after.state;
-          held = Some (record { revision = after.state.rev; content = bytes_of page.now });
+          held = Some (record { revision = wanted.rev; content = bytes_of page.now });
           reconciled = after.reconciled;
         })) }
-        ensures by_two { OnOk result (self.new.by_two ≡ with_version how.version id self.old.by_two) }
-        ensures change { IfOk result (Tells how.telling (stored_in self.old) (stored_in self.new)) }
+        ensures by_two { OnOk result (self.new.by_two ≡ with_version wanted.version wanted.id self.old.by_two) }
+        ensures change { IfOk result (Tells telling (stored_in self.old) (stored_in self.new)) }
         ensures limit { self.new.limit ≡ self.old.limit }
         ensures err { OnErr result (self.new ≡ self.old) }
-        ensures full { result ≡ Err Full → self.old.limit < room_with (meaning_by meaning self.old.by_two) self.old.records (meaning how.version id after.state.rev (bytes_of page.now)) }
-        ensures within { OnOk result (room_with (meaning_by meaning self.old.by_two) self.old.records (meaning how.version id after.state.rev (bytes_of page.now)) ≤ self.old.limit) }
-        ensures held { HasRoom (meaning_by meaning self.new.by_two) self.new.limit self.new.records }
-        ensures holders { AreHolders self.new.by_two self.new.records }
+        ensures full { result ≡ Err Full → self.old.limit < room_with (meaning_by meaning self.old.by_two) self.old.records (meaning wanted.version wanted.id wanted.rev (bytes_of page.now)) }
+        ensures within { OnOk result (room_with (meaning_by meaning self.old.by_two) self.old.records (meaning wanted.version wanted.id wanted.rev (bytes_of page.now)) ≤ self.old.limit) }
     {
-        if make_room(&mut self.table, id).is_err() {
+        if make_room(&mut self.table, wanted.id).is_err() {
             return Err(StoreFault::OutOfMemory);
         }
         // A triple has at most as many owners as there are records, so no count is saturated.
         let entities = self.table.len();
         prove!(entities < usize::MAX);
-        let Ok(added) = self.holders.add(id, how.version) else {
+        let Ok(added) = self.holders.add(wanted.id, wanted.version) else {
             return Err(StoreFault::OutOfMemory);
         };
         let Ok(piece) = self.store.place(page.bytes()) else {
-            self.holders.take_back(id, how.version, added);
+            self.holders.take_back(wanted.id, wanted.version, added);
             return Err(StoreFault::OutOfMemory);
         };
-        let setting = SwapSetting::new(self.alloc, id, after.state.rev, how);
-        match exchange_page(&mut self.store, had(&self.table, id), page, setting) {
+        let setting = SwapSetting {
+            alloc: self.alloc,
+            wanted,
+            telling,
+        };
+        let had = Had {
+            keys: keys_of(&self.table, wanted.id),
+            times: times_of(&self.table, wanted.id),
+        };
+        match exchange_page(&mut self.store, had, page, setting) {
             Ok(
                 PageExchange {
                     keys,
@@ -73,16 +81,22 @@ impl Holdings {
                 },
             ) => {
                 let held = Held {
-                    revision: after.state.rev,
+                    revision: wanted.rev,
                     content: Kept { piece, keys, times },
                 };
-                replace(&mut self.store, &mut self.table, id, after, Some(held));
-                self.holders.remove(id, other(how.version));
+                replace(
+                    &mut self.store,
+                    &mut self.table,
+                    wanted.id,
+                    after,
+                    Some(held),
+                );
+                self.holders.remove(wanted.id, other(wanted.version));
                 Ok(change)
             }
             Err(refused) => {
                 self.store.free(piece);
-                self.holders.take_back(id, how.version, added);
+                self.holders.take_back(wanted.id, wanted.version, added);
                 Err(refused)
             }
         }
@@ -107,8 +121,7 @@ impl Holdings {
         ensures routed { IfOk result (λ effect. effect.routed ≡ None) }
         ensures limit { self.new.limit ≡ self.old.limit }
         ensures err { OnErr result (self.new ≡ self.old) }
-        ensures held { HasRoom (meaning_by meaning self.new.by_two) self.new.limit self.new.records }
-        ensures holders { AreHolders self.new.by_two self.new.records }
+        ensures refused { OnErr result ((map.contains_key self.old.records id ≡ false) ⊎ TellsDropped telling after.state.mode) }
     {
         match after.state.mode {
             Mode::Deleted => {
@@ -141,28 +154,11 @@ impl Holdings {
         ensures stored { OnOk result (stored_in self.new ≡ stored_in self.old) }
         ensures limit { self.new.limit ≡ self.old.limit }
         ensures err { OnErr result (self.new ≡ self.old) }
-        ensures held { HasRoom (meaning_by meaning self.new.by_two) self.new.limit self.new.records }
-        ensures holders { AreHolders self.new.by_two self.new.records }
+        ensures refused { OnErr result (map.contains_key self.old.records id ≡ false) }
     {
         make_room(&mut self.table, id)?;
         keep_record(&mut self.table, id, after);
         Ok(())
-    }
-
-    /// Sets state and last reconciliation of an entity that has a record. It holds what it held.
-    pub fn set_standing(&mut self, id: EntityId, after: Standing)
-        requires { map.contains_key self.old.records id ≡ true }
-        ensures records { self.new.records ≡ map.insert self.old.records id (record {
-          state = after.state;
-          held = (record_of self.old.records id).held;
-          reconciled = after.reconciled;
-        }) }
-        ensures by_two { self.new.by_two ≡ self.old.by_two }
-        ensures limit { self.new.limit ≡ self.old.limit }
-        ensures held { HasRoom (meaning_by meaning self.new.by_two) self.new.limit self.new.records }
-        ensures holders { AreHolders self.new.by_two self.new.records }
-    {
-        keep_record(&mut self.table, id, after);
     }
 
     /// Sets the record of an entity, which holds nothing from now on, and tells the change of the stored triples if asked to. After
@@ -182,8 +178,7 @@ impl Holdings {
         ensures change { IfOk result (Tells telling (stored_in self.old) (stored_in self.new)) }
         ensures limit { self.new.limit ≡ self.old.limit }
         ensures err { OnErr result (self.new ≡ self.old) }
-        ensures held { HasRoom (meaning_by meaning self.new.by_two) self.new.limit self.new.records }
-        ensures holders { AreHolders self.new.by_two self.new.records }
+        ensures refused { OnErr result ((map.contains_key self.old.records id ≡ false) ⊎ (telling ≡ TheChange)) }
     {
         make_room(&mut self.table, id)?;
         let change = self

@@ -1,19 +1,20 @@
 // What the entities hold.
 
-ghost use Rattle.std.specs.Prelude.{◌≡◌, ◌≤◌, [], Some, IfOk, IfSome, IsSome, IsTrue, MatchOption, OnOk};
+ghost use Rattle.std.specs.Prelude.{◌≡◌, ◌≤◌, [], false, Some, IfOk, IfSome, IsSome, IsTrue, MatchOption, OnErr, OnOk};
 ghost use Rattle.std.specs.FinMap as map;
 ghost use Rattle.entity_state.specs.{Standing.standing_of, Table.has_room};
 ghost use Rattle.replay_model.specs.{Records.record_of, Versions.meaning_by};
-ghost use Rattle.world.specs.{Compared.HasEntity, Compared.IsKnownPage, Keeping.held_with, Keeping.kept_of, Keeping.piece_at, Laid.IsLaid};
-ghost use Rattle.world.specs.{Meaning.meaning, Roomed.HasRoom, Roomed.room_with, Timed.counts_held};
+ghost use Rattle.fetched_pages.specs.{Compared.HasEntity, Compared.IsKnownPage, Meaning.meaning};
+ghost use Rattle.world.specs.{Keeping.held_with, Keeping.kept_of, Keeping.piece_at, Laid.IsLaid};
+ghost use Rattle.world.specs.{Roomed.HasRoom, Roomed.room_with, Timed.counts_held, WorldState.AreHolders};
 ghost use Rattle.triple_store.specs.StoreState.{beside};
 
-use crate::comparing::KnownPage;
 use crate::holders::Holders;
-use crate::kept::{Kept, counts_of, times_of};
+use crate::kept::{Kept, held_of};
 use crate::remapping::held_in;
 use entity_model::{EntityId, MappingVersion};
 use entity_state::{Record, Standing, Table};
+use fetched_pages::KnownPage;
 use rdf_term::{List, OutOfMemory};
 use std::alloc::Global;
 use std::hash::RandomState;
@@ -64,9 +65,16 @@ impl Holdings {
     pub fn set_limit(&mut self, limit: u32)
         requires { map.len self.old.records ≡ 0 }
         ensures limit { self.new ≡ record self.old { limit = limit } }
-        ensures held { HasRoom (meaning_by meaning self.new.by_two) self.new.limit self.new.records }
     {
         self.store.set_limit(limit);
+    }
+
+    /// What is held has room, and what is named as mapped by version Two is held. It does nothing but to say so.
+    pub fn facts(&self)
+        ensures room { HasRoom (meaning_by meaning self.now.by_two) self.now.limit self.now.records }
+        ensures holders { AreHolders self.now.by_two self.now.records }
+    {
+        let _ = &self.store;
     }
 
     /// What stands of an entity's record.
@@ -127,14 +135,20 @@ fn known_in<'a>(store: &'a Store, table: &Table<Kept>, id: EntityId) -> Option<K
     ensures counts { IfSome result (λ page. Some page.counts ≡ counts_held (kept_of table.now.records id).held) }
     ensures held { IfSome result (λ page. held_with (beside store.now) (kept_of table.now.records id).held ≡ Some (record { revision = page.rev; content = page.bytes.now })) }
 {
-    if times_of(table, id).is_empty() {
-        return None;
-    }
-    let counts = counts_of(table, id)?;
-    let Some((rev, bytes)) = held_in(store, table, id) else {
+    let Some(held) = held_of(table, id) else {
         return None;
     };
-    Some(KnownPage { rev, bytes, counts })
+    let Some(known) = &held.content.times else {
+        return None;
+    };
+    if known.times.is_empty() {
+        return None;
+    }
+    Some(KnownPage {
+        rev: held.revision,
+        bytes: store.read(&held.content.piece),
+        counts: known.counts,
+    })
 }
 
 // What stands of an entity's record.
@@ -165,10 +179,15 @@ fn held_revision(entity: &Record<Kept>) -> Option<u64>
     entity.held.as_ref().map(|held| held.revision)
 }
 
-// Makes room for a record, so that the next one of the entity that is put takes no memory.
+// Makes room for a record, so that the next one of the entity that is put takes no memory; none is taken where it has a record.
 pub(crate) fn make_room(table: &mut Table<Kept>, id: EntityId) -> Result<(), OutOfMemory>
     ensures records { table.new.records ≡ table.old.records }
     ensures room { OnOk result (IsTrue (has_room table.new id)) }
+    ensures refused { OnErr result (map.contains_key table.old.records id ≡ false) }
 {
-    table.make_room(id)
+    if table.get(id).is_some() {
+        return Ok(());
+    }
+    table.make_room(id)?;
+    Ok(())
 }

@@ -1,11 +1,10 @@
 // What is kept of a page that an entity holds.
 
-ghost use Rattle.std.specs.Prelude.{◌≡◌};
-ghost use Rattle.world.specs.{Keeping.kept_of, Keeping.keys_held, Timed.counts_held, Timed.times_held};
+ghost use Rattle.std.specs.Prelude.{◌≡◌, option_copied};
+ghost use Rattle.world.specs.{Keeping.kept_of, Keeping.keys_held, Timed.times_held};
 
-use crate::swapping::Had;
 use entity_model::EntityId;
-use entity_state::Table;
+use entity_state::{Held, Table};
 use page_rdf::Counts;
 use text_region::Piece;
 use triple_store::{KeySlices, Keys};
@@ -26,14 +25,21 @@ pub struct PageTimes {
     pub times: Vec<u16>,
 }
 
+/// What an entity holds.
+pub fn held_of(table: &Table<Kept>, id: EntityId) -> Option<&Held<Kept>>
+    ensures { option_copied result ≡ (kept_of table.now.records id).held }
+{
+    match table.get(id) {
+        Some(record) => record.held.as_ref(),
+        None => None,
+    }
+}
+
 /// The keys of the triples of what an entity holds.
 pub fn keys_of(table: &Table<Kept>, id: EntityId) -> KeySlices<'_>
     ensures { result.rising.now ≡ keys_held (kept_of table.now.records id).held }
 {
-    let Some(record) = table.get(id) else {
-        return KeySlices::none();
-    };
-    match &record.held {
+    match held_of(table, id) {
         Some(held) => held.content.keys.slices(),
         None => KeySlices::none(),
     }
@@ -43,41 +49,11 @@ pub fn keys_of(table: &Table<Kept>, id: EntityId) -> KeySlices<'_>
 pub fn times_of(table: &Table<Kept>, id: EntityId) -> &[u16]
     ensures { result.now ≡ times_held (kept_of table.now.records id).held }
 {
-    let Some(record) = table.get(id) else {
-        return &[];
-    };
-    let Some(held) = &record.held else {
+    let Some(held) = held_of(table, id) else {
         return &[];
     };
     match &held.content.times {
         Some(known) => known.times.as_slice(),
         None => &[],
-    }
-}
-
-/// The counts that are known of the page that an entity holds.
-pub fn counts_of(table: &Table<Kept>, id: EntityId) -> Option<Counts>
-    ensures { result ≡ counts_held (kept_of table.now.records id).held }
-{
-    let Some(record) = table.get(id) else {
-        return None;
-    };
-    let Some(held) = &record.held else {
-        return None;
-    };
-    match &held.content.times {
-        Some(known) => Some(known.counts),
-        None => None,
-    }
-}
-
-/// What an entity has: the keys of its triples, and their times.
-pub fn had(table: &Table<Kept>, id: EntityId) -> Had<'_>
-    ensures keys { result.keys.rising.now ≡ keys_held (kept_of table.now.records id).held }
-    ensures times { result.times.now ≡ times_held (kept_of table.now.records id).held }
-{
-    Had {
-        keys: keys_of(table, id),
-        times: times_of(table, id),
     }
 }

@@ -1,23 +1,16 @@
-// What holds of the meaning of pages, of the versions by which they are mapped, and of the changes that are told. Each law is the
+// What holds of the versions by which pages are mapped, and of the changes that are told. Each law is the
 // contract of a function that does nothing.
 
 ghost use Rattle.std.specs.Prelude.{◌≡◌, ◌↔◌, ℕ, List, Option};
-ghost use Rattle.sorted_sets.specs.Rising.{In, IsRising};
+ghost use Rattle.sorted_sets.specs.Rising.{IsRising};
 ghost use Rattle.rdf_term.specs.{declared.triple.Triple.Triple, Order.triple_cmp};
 ghost use Rattle.entity_model.specs.{declared.id.EntityId.EntityId, declared.mapping.MappingVersion.MappingVersion};
 ghost use Rattle.revisions.specs.Revisions.{Contents};
 ghost use Rattle.replay_model.specs.{PlayedVersions.by_two_after_event, PlayedVersions.by_two_remapped, Records.Records, Records.record_of};
 ghost use Rattle.replay_model.specs.Versions.{all_by};
 ghost use Rattle.triple_store.specs.declared.telling.Change.{Change};
-ghost use Rattle.world.specs.{declared.applied.Applied.Applied, Applying.Applies, Changing.IsChangeOf, Meaning.meaning, Means.Means};
+ghost use Rattle.world.specs.{declared.applied.Applied.Applied, Applying.Applies, Changing.IsChangeOf};
 ghost use Rattle.world.specs.WorldState.{AreHolders, WorldState, by_two_after};
-
-/// Bytes mean a triple exactly where they are a page of the entity with a document, a rule of the dump gives a triple for it, and
-/// this one is left of that by munging.
-pub fn meaning_is_by_rules()
-    ensures { (version : MappingVersion) (x : EntityId) (rev : ℕ) (bytes : List ℕ) (t : Triple) →
-        In t (meaning version x rev bytes) ↔ Means version x rev bytes t }
-{}
 
 /// The versions by which a world maps its pages are those of the play: an application makes of them what the play says, with the reply
 /// that came; and once every page is mapped by the version in force, they are what the play makes of them at a line that brings this

@@ -8,17 +8,18 @@ ghost use Rattle.rdf_term.specs.{Fit.HasFitAndShortTerms, Order.triple_cmp};
 ghost use Rattle.term_pool.specs.declared.fault.PoolFault.TheVariants.{Full};
 ghost use Rattle.triple_store.specs.StoreState.{beside};
 ghost use Rattle.replay_model.specs.{Records.record_of, Union.triples_held, Versions.is_holder, Versions.meaning_by, Versions.with_version};
-ghost use Rattle.world.specs.{Changing.Tells, Keeping.held_with, Keeping.kept_of, Keeping.piece_at, Keeping.with_keys, Meaning.meaning};
-ghost use Rattle.world.specs.{Roomed.HasRoom, Roomed.room_with, Routed.AreTriplesOf, WorldState.AreHolders, WorldState.stored_in};
+ghost use Rattle.fetched_pages.specs.Meaning.{meaning};
+ghost use Rattle.world.specs.{Changing.Tells, Keeping.held_with, Keeping.kept_of, Keeping.piece_at, Keeping.with_keys};
+ghost use Rattle.world.specs.{Roomed.room_with, Routed.AreTriplesOf, WorldState.stored_in};
 
 use crate::applied::Remapped;
-use crate::fetching::{Wanted, texts_in};
 use crate::holders::other;
 use crate::holdings::Holdings;
-use crate::kept::{Kept, keys_of};
+use crate::kept::{Kept, held_of, keys_of};
 use entity_json::DocumentFault;
 use entity_model::{EntityId, MappingVersion};
 use entity_state::{Held, Record, Table};
+use fetched_pages::{Wanted, texts_in};
 use rdf_term::OutOfMemory;
 use std::alloc::Global;
 use triple_store::{Exchange, Keys, Left, Store, StoreFault, Telling, Uncounted};
@@ -45,8 +46,6 @@ impl Holdings {
             (triples_held (meaning version) id (record_of self.old.records id).held) }
         ensures within { OnOk result (room_with (meaning_by meaning self.old.by_two) self.old.records
             (triples_held (meaning version) id (record_of self.old.records id).held) ≤ self.old.limit) }
-        ensures held { HasRoom (meaning_by meaning self.new.by_two) self.new.limit self.new.records }
-        ensures holders { AreHolders self.new.by_two self.new.records }
     {
         // A triple has at most as many owners as there are records, so no count is saturated.
         let entities = self.table.len();
@@ -114,10 +113,7 @@ pub fn held_in<'a>(store: &'a Store, table: &Table<Kept>, id: EntityId) -> Optio
     ensures { MatchOption result (held_with (beside store.now) (kept_of table.now.records id).held ≡ None)
         (λ h. held_with (beside store.now) (kept_of table.now.records id).held ≡ Some (record { revision = h.0; content = h.1.now })) }
 {
-    let Some(record) = table.get(id) else {
-        return None;
-    };
-    match &record.held {
+    match held_of(table, id) {
         Some(held) => Some((held.revision, store.read(&held.content.piece))),
         None => None,
     }

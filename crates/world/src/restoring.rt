@@ -8,17 +8,16 @@ ghost use Rattle.entity_state.specs.Record.{held_revision, is_held};
 ghost use Rattle.reorder_buffer.specs.Buffered.{after_taking};
 ghost use Rattle.replay_model.specs.{Entries.is_of_revision, Replies.HoldsDocument, Union.triples_held};
 ghost use Rattle.replay_model.specs.Versions.{all_by, meaning_by, with_version};
-ghost use Rattle.world.specs.{Fetched.IsPageOf, Meaning.meaning};
+ghost use Rattle.fetched_pages.specs.Meaning.{meaning};
 ghost use Rattle.world.specs.Restoring.{MayStand, by_two_with, is_accounted_for, restored};
 ghost use Rattle.world.specs.{Roomed.HasRoom, Roomed.room_with, WorldState.AreHolders};
-ghost use Rattle.world.specs.declared.restoring.RestoreFault.TheVariants.{Full, Unsound, OutOfMemory as RestoreOutOfMemory};
+ghost use Rattle.world.specs.declared.restoring.RestoreFault.TheVariants.{Full, Unsound};
 
-use crate::applied::Handling;
-use crate::fetching::{FetchedPage, Page, Wanted, judge};
 use crate::holdings::Holdings;
 use crate::world::World;
 use entity_model::{EntityId, Event, MappingVersion};
-use entity_state::{Held, Mode, Record, Standing, State};
+use entity_state::{Held, Mode, Record, Standing};
+use fetched_pages::{FetchedPage, Wanted, judge};
 use rdf_term::{OutOfMemory, Text};
 use side_output::{Entry, Side};
 use thiserror::Error;
@@ -83,7 +82,9 @@ impl World {
         if !is_accounted_for(&self.side, id, &entity) {
             return Err(RestoreFault::Unsound);
         }
-        match self.holdings.restore(id, entity, self.mapping) {
+        let restored = self.holdings.restore(id, entity, self.mapping);
+        self.holdings.facts();
+        match restored {
             Ok(()) => Ok(()),
             Err(fault) => Err(fault),
         }
@@ -106,8 +107,6 @@ impl Holdings {
         ensures limit { self.new.limit ≡ self.old.limit }
         ensures full { IsErrOf result Full → self.old.limit < room_with (meaning_by meaning self.old.by_two) self.old.records (triples_held (meaning version) id entity.held) }
         ensures within { OnOk result (room_with (meaning_by meaning self.old.by_two) self.old.records (triples_held (meaning version) id entity.held) ≤ self.old.limit) }
-        ensures held { HasRoom (meaning_by meaning self.new.by_two) self.new.limit self.new.records }
-        ensures holders { AreHolders self.new.by_two self.new.records }
         ensures err { OnErr result (self.new ≡ self.old) }
     {
         let Record {
@@ -122,29 +121,17 @@ impl Holdings {
         };
         match held {
             Some(held) => self.restore_page(id, after, held, version),
-            None => self.restore_bare(id, after),
+            None => {
+                self.facts();
+                match self.release(id, after, Telling::Nothing) {
+                    Ok(_) => Ok(()),
+                    Err(OutOfMemory) => Err(RestoreFault::OutOfMemory),
+                }
+            }
         }
     }
 
-    // Puts back the record of an entity that holds nothing.
-    fn restore_bare(&mut self, id: EntityId, after: Standing) -> Result<(), RestoreFault>
-        ensures ok { OnOk result (self.new.records ≡ map.insert self.old.records id (record { state = after.state; held = None; reconciled = after.reconciled })) }
-        ensures by_two { OnOk result (self.new.by_two ≡ with_version MappingVersion.One id self.old.by_two) }
-        ensures refused { OnErr result (result ≡ Err RestoreOutOfMemory) }
-        ensures limit { self.new.limit ≡ self.old.limit }
-        ensures within { room_with (meaning_by meaning self.old.by_two) self.old.records [] ≤ self.old.limit }
-        ensures held { HasRoom (meaning_by meaning self.new.by_two) self.new.limit self.new.records }
-        ensures holders { AreHolders self.new.by_two self.new.records }
-        ensures err { OnErr result (self.new ≡ self.old) }
-    {
-        let _ = &self.alloc;
-        match self.release(id, after, Telling::Nothing) {
-            Ok(_) => Ok(()),
-            Err(OutOfMemory) => Err(RestoreFault::OutOfMemory),
-        }
-    }
-
-    // Puts back the record of an entity that holds a page.
+    // Puts back the record of an entity that holds a page; its state may be of another revision, whose fetch gave no document.
     fn restore_page(
         &mut self,
         id: EntityId,
@@ -159,8 +146,6 @@ impl Holdings {
         ensures limit { self.new.limit ≡ self.old.limit }
         ensures full { IsErrOf result Full → self.old.limit < room_with (meaning_by meaning self.old.by_two) self.old.records (meaning version id held.revision held.content) }
         ensures within { OnOk result (room_with (meaning_by meaning self.old.by_two) self.old.records (meaning version id held.revision held.content) ≤ self.old.limit) }
-        ensures held { HasRoom (meaning_by meaning self.new.by_two) self.new.limit self.new.records }
-        ensures holders { AreHolders self.new.by_two self.new.records }
         ensures err { OnErr result (self.new ≡ self.old) }
     {
         let wanted = Wanted {
@@ -169,56 +154,18 @@ impl Holdings {
             version,
         };
         match judge(self.alloc, wanted, bytes_of(held.content), None) {
-            Ok(Ok(page)) => self.put_back(wanted, after, page),
+            Ok(Ok(page)) => {
+                let page = FetchedPage::Whole(page);
+                let done = self.hold(wanted, after, &page, Telling::Nothing);
+                drop(page);
+                match done {
+                    Ok(_) => Ok(()),
+                    Err(StoreFault::Full) => Err(RestoreFault::Full),
+                    Err(StoreFault::OutOfMemory) => Err(RestoreFault::OutOfMemory),
+                }
+            }
             Ok(Err(_)) => Err(RestoreFault::Unsound),
             Err(OutOfMemory) => Err(RestoreFault::OutOfMemory),
-        }
-    }
-
-    // Puts back the record of an entity that holds this page; its state may be of another revision, whose fetch gave no document.
-    fn put_back(&mut self, wanted: Wanted, after: Standing, page: Page) -> Result<(), RestoreFault>
-        requires { IsPageOf wanted.version wanted.id wanted.rev page }
-        ensures ok { OnOk result (self.new.records ≡ map.insert self.old.records wanted.id (record {
-          state = after.state;
-          held = Some (record { revision = wanted.rev; content = page.bytes });
-          reconciled = after.reconciled;
-        })) }
-        ensures by_two { OnOk result (self.new.by_two ≡ with_version wanted.version wanted.id self.old.by_two) }
-        ensures sound { ¬ (IsErrOf result Unsound) }
-        ensures limit { self.new.limit ≡ self.old.limit }
-        ensures full { IsErrOf result Full → self.old.limit < room_with (meaning_by meaning self.old.by_two) self.old.records (meaning wanted.version wanted.id wanted.rev page.bytes) }
-        ensures within { OnOk result (room_with (meaning_by meaning self.old.by_two) self.old.records (meaning wanted.version wanted.id wanted.rev page.bytes) ≤ self.old.limit) }
-        ensures held { HasRoom (meaning_by meaning self.new.by_two) self.new.limit self.new.records }
-        ensures holders { AreHolders self.new.by_two self.new.records }
-        ensures err { OnErr result (self.new ≡ self.old) }
-    {
-        let there = Standing {
-            state: State {
-                mode: after.state.mode,
-                rev: wanted.rev,
-            },
-            held: None,
-            reconciled: after.reconciled,
-        };
-        let how = Handling {
-            version: wanted.version,
-            telling: Telling::Nothing,
-        };
-        let page = FetchedPage::Whole(page);
-        match self.hold(wanted.id, there, &page, how) {
-            Ok(_) => {
-                drop(page);
-                self.set_standing(wanted.id, after);
-                Ok(())
-            }
-            Err(StoreFault::Full) => {
-                drop(page);
-                Err(RestoreFault::Full)
-            }
-            Err(StoreFault::OutOfMemory) => {
-                drop(page);
-                Err(RestoreFault::OutOfMemory)
-            }
         }
     }
 }

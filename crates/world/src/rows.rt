@@ -1,33 +1,34 @@
 // The triples of all that is held, or of what one entity holds, in their order, and the number of the owners of each.
 
 ghost use Rattle.std.specs.Prelude.{◌≡◌, length, IfOk};
+ghost use Rattle.std.specs.FinMap as map;
 ghost use Rattle.std.specs.List.{AllByRecursion};
-ghost use Rattle.rdf_term.specs.{Fit.HasFitAndShortTerms, Order.triple_cmp, Pattern.rows};
+ghost use Rattle.rdf_term.specs.{declared.triple.Triple.Triple as TheTriple, Fit.HasFitAndShortTerms, Order.triple_cmp, Pattern.rows};
 ghost use Rattle.replay_model.specs.{Records.record_of, Union.owners, Union.triples_held, Union.union, Versions.meaning_by};
-ghost use Rattle.world.specs.Meaning.{meaning};
+ghost use Rattle.triple_store.specs.{Counts.count_of, StoreState.counts_in};
+ghost use Rattle.fetched_pages.specs.Meaning.{meaning};
 
 use crate::holdings::Holdings;
 use crate::kept::keys_of;
 use crate::world::World;
 use entity_model::EntityId;
 use rdf_term::{OutOfMemory, Pattern, Triple, TripleSet};
-use triple_store::{Rows, Uncounted};
+use triple_store::{Rows, Store, Uncounted};
 
 impl World {
     /// The triples of all that is held. Their terms are fit and short.
-    #[tactic(auto, using(crate::proofs::Fit::union_fit))]
     pub fn export(&self) -> Result<TripleSet, OutOfMemory>
         ensures value { IfOk result (λ set. set ≡ union triple_cmp (meaning_by meaning self.now.by_two) self.now.replay.played.records) }
         ensures fit { IfOk result (AllByRecursion HasFitAndShortTerms) }
     {
-        self.holdings.all()
+        self.holdings.store().all()
     }
 
     /// The stored triples that agree with the pattern, in order, in memory of their own.
     pub fn matches(&self, pattern: &Pattern) -> Result<TripleSet, OutOfMemory>
         ensures { IfOk result (λ set. set ≡ rows (union triple_cmp (meaning_by meaning self.now.by_two) self.now.replay.played.records) pattern.now) }
     {
-        self.holdings.matches(pattern)
+        self.holdings.store().matches(pattern)
     }
 
     /// The triples of what an entity holds, by the version that its page is mapped by; none where it holds nothing. Their terms are fit
@@ -44,37 +45,38 @@ impl World {
     pub fn owners(&self, triple: &Triple) -> u64
         ensures { result ≡ owners triple_cmp (meaning_by meaning self.now.by_two) self.now.replay.played.records triple.now }
     {
-        self.holdings.owners(triple)
+        self.holdings.store().owners(triple, &mut Uncounted)
     }
 
     /// The triples of all that is held, in order, without a copy of their texts.
     pub fn rows(&self) -> Result<Rows<'_>, OutOfMemory>
         ensures { IfOk result (λ found. found ≡ union triple_cmp (meaning_by meaning self.now.by_two) self.now.replay.played.records) }
     {
-        self.holdings.rows()
+        self.holdings.store().rows()
     }
 
     /// Those of them that agree with the pattern, in order, without a copy of their texts.
     pub fn matching(&self, pattern: &Pattern) -> Result<Rows<'_>, OutOfMemory>
         ensures { IfOk result (λ found. found ≡ rows (union triple_cmp (meaning_by meaning self.now.by_two) self.now.replay.played.records) pattern.now) }
     {
-        self.holdings.matching(pattern)
+        self.holdings.store().matching(pattern, &mut Uncounted)
     }
 
     /// How many of them agree with the pattern, which takes no memory: no triple is looked at but to find the ends of their range.
     pub fn matching_len(&self, pattern: &Pattern) -> usize
         ensures { result ≡ length (rows (union triple_cmp (meaning_by meaning self.now.by_two) self.now.replay.played.records) pattern.now) }
     {
-        self.holdings.matching_len(pattern)
+        self.holdings.store().matching_len(pattern, &mut Uncounted)
     }
 }
 
 impl Holdings {
-    /// The triples of all that is held, in memory of their own.
-    pub fn all(&self) -> Result<TripleSet, OutOfMemory>
-        ensures { IfOk result (λ set. set ≡ union triple_cmp (meaning_by meaning self.now.by_two) self.now.records) }
+    /// The store, which has the triples of all that is held, each with the number of its owners.
+    pub fn store(&self) -> &Store
+        ensures triples { map.keys (counts_in result.now) ≡ union triple_cmp (meaning_by meaning self.now.by_two) self.now.records }
+        ensures counts { (triple : TheTriple) → count_of (counts_in result.now) triple ≡ owners triple_cmp (meaning_by meaning self.now.by_two) self.now.records triple }
     {
-        self.store.all()
+        &self.store
     }
 
     /// The triples of what an entity holds, in memory of their own.
@@ -83,40 +85,5 @@ impl Holdings {
     {
         let rows = self.store.rows_of(keys_of(&self.table, id))?;
         rows.to_set(self.alloc)
-    }
-
-    /// Those of them that agree with the pattern, in memory of their own.
-    pub fn matches(&self, pattern: &Pattern) -> Result<TripleSet, OutOfMemory>
-        ensures { IfOk result (λ set. set ≡ rows (union triple_cmp (meaning_by meaning self.now.by_two) self.now.records) pattern.now) }
-    {
-        self.store.matches(pattern)
-    }
-
-    /// How many entities hold the triple.
-    pub fn owners(&self, triple: &Triple) -> u64
-        ensures { result ≡ owners triple_cmp (meaning_by meaning self.now.by_two) self.now.records triple.now }
-    {
-        self.store.owners(triple, &mut Uncounted)
-    }
-
-    // The triples of all that is held.
-    pub(crate) fn rows(&self) -> Result<Rows<'_>, OutOfMemory>
-        ensures { IfOk result (λ found. found ≡ union triple_cmp (meaning_by meaning self.now.by_two) self.now.records) }
-    {
-        self.store.rows()
-    }
-
-    // Those of them that agree with the pattern.
-    pub(crate) fn matching(&self, pattern: &Pattern) -> Result<Rows<'_>, OutOfMemory>
-        ensures { IfOk result (λ found. found ≡ rows (union triple_cmp (meaning_by meaning self.now.by_two) self.now.records) pattern.now) }
-    {
-        self.store.matching(pattern, &mut Uncounted)
-    }
-
-    // How many of them agree with the pattern.
-    pub(crate) fn matching_len(&self, pattern: &Pattern) -> usize
-        ensures { result ≡ length (rows (union triple_cmp (meaning_by meaning self.now.by_two) self.now.records) pattern.now) }
-    {
-        self.store.matching_len(pattern, &mut Uncounted)
     }
 }

@@ -2,15 +2,12 @@
 
 ghost use Rattle.std.specs.Prelude.{◌≡◌, ◌<◌};
 ghost use Rattle.rdf_term.specs.declared.triple.Triple.{Triple};
-ghost use Rattle.triple_store.specs.{Counts.count_of, StoreState.IsSound, StoreState.counts_in};
-ghost use Rattle.triple_store.specs.Updates.{AreStored, KeepsRest};
-ghost use Rattle.world.specs.{Fetched.bytes_of, Swapped.IsPageExchange, Swapped.MaySwap, Swapped.with_counts};
+ghost use Rattle.triple_store.specs.{Counts.count_of, StoreState.IsSound, StoreState.counts_in, Updates.AreStored, Updates.KeepsRest};
+ghost use Rattle.fetched_pages.specs.Fetched.{bytes_of};
+ghost use Rattle.world.specs.Swapped.{IsPageExchange, MaySwap, with_counts};
 
-use crate::applied::Handling;
-use crate::comparing::ChangedPage;
-use crate::fetching::{FetchedPage, Wanted, texts_in};
 use crate::kept::PageTimes;
-use entity_model::EntityId;
+use fetched_pages::{ChangedPage, FetchedPage, Wanted, texts_in};
 use page_rdf::Counts;
 use std::alloc::Global;
 use triple_store::{
@@ -39,25 +36,6 @@ pub struct PageExchange {
     pub keys: Keys,
     pub times: Option<PageTimes>,
     pub change: Option<Change>,
-}
-
-impl SwapSetting {
-    /// The setting for a revision of an entity that is handled so.
-    pub fn new(alloc: Global, id: EntityId, rev: u64, how: Handling) -> SwapSetting
-        ensures wanted { result.wanted ≡ record { id = id; rev = rev; version = how.version } }
-        ensures telling { result.telling ≡ how.telling }
-    {
-        let wanted = Wanted {
-            id,
-            rev,
-            version: how.version,
-        };
-        SwapSetting {
-            alloc,
-            wanted,
-            telling: how.telling,
-        }
-    }
 }
 
 /// Puts the triples of a page in the place of those that its entity had. Where it is known what the page changes, it works on that alone.

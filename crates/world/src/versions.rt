@@ -2,7 +2,8 @@
 
 ghost use Rattle.std.specs.Prelude.{◌≡◌, ◌<◌, ◌≤◌, ◌+◌, true, None, IfOk, IfSome, IsErrOf, IsOk, OnErr, OnOk, length};
 ghost use Rattle.replay_model.specs.{Records.record_of, Versions.all_by, Versions.is_holder, Versions.meaning_by};
-ghost use Rattle.world.specs.{Changing.Tells, Changing.entity_of, Meaning.meaning, Roomed.HasRoom, Roomed.room_with, Routed.AreTriplesOf};
+ghost use Rattle.fetched_pages.specs.Meaning.{meaning};
+ghost use Rattle.world.specs.{Changing.Tells, Changing.entity_of, Roomed.HasRoom, Roomed.room_with, Routed.AreTriplesOf};
 ghost use Rattle.world.specs.WorldState.{AreHolders, first_of, held_version, next_stale, remapped, stale, stale_by, stored_of, triples_anew, version_in};
 ghost use Rattle.world.specs.declared.applied.WorldFault.TheVariants.{Full, Nothing as NothingDue};
 
@@ -96,7 +97,9 @@ impl World {
         let Some(entity) = self.holdings.next_stale(self.mapping) else {
             return Ok(None);
         };
-        match self.holdings.remap(entity, self.mapping, telling) {
+        let remapped = self.holdings.remap(entity, self.mapping, telling);
+        self.holdings.facts();
+        match remapped {
             Ok(Remapped { change, triples }) => Ok(Some(Remapping {
                 entity,
                 change,

@@ -6,9 +6,9 @@ ghost use Rattle.std.specs.FinMap as map;
 ghost use Rattle.entity_json.specs.Document.{unfit_of};
 ghost use Rattle.entity_model.specs.declared.id.EntityId.{EntityId as AnEntity};
 ghost use Rattle.reorder_buffer.specs.Buffered.{first_due};
-ghost use Rattle.replay_model.specs.{Entries.HoldsUnlessOpen, Entries.is_open_in, Records.record_of, Replies.HoldsDocument};
-ghost use Rattle.replay_model.specs.Versions.{meaning_by};
-ghost use Rattle.world.specs.{Laid.IsLaid, Meaning.meaning, Roomed.room_with};
+ghost use Rattle.replay_model.specs.{Entries.HoldsUnlessOpen, Entries.is_open_in, Records.record_of, Replies.HoldsDocument, Versions.meaning_by};
+ghost use Rattle.fetched_pages.specs.Meaning.{meaning};
+ghost use Rattle.world.specs.{Laid.IsLaid, Roomed.room_with};
 
 use crate::world::World;
 use entity_model::{EntityId, Event};
@@ -120,16 +120,11 @@ impl World {
         ensures { IfSome (slice_get self.now.replay.played.side index) (λ entry. result ≡ is_open_in self.now.replay.played.records entry) }
     {
         match self.side(index) {
-            Some(entry) => self.is_open(entry),
+            Some(entry) => {
+                let standing = self.holdings.standing(entry.entity());
+                is_open(entry, standing.state, standing.held, standing.reconciled)
+            }
             None => false,
         }
-    }
-
-    // Whether an entry is open, by the record of its entity.
-    fn is_open(&self, entry: &Entry) -> bool
-        ensures { result ≡ is_open_in self.now.replay.played.records entry.now }
-    {
-        let standing = self.holdings.standing(entry.entity());
-        is_open(entry, standing.state, standing.held, standing.reconciled)
     }
 }

@@ -1,6 +1,5 @@
 -- By the terms that cover the triples.
-use Rattle.drill_replay.proofs.Covered.{distinct_covered}
-use Rattle.drill_replay.proofs.Meant.{earlier_few, later_few}
+use Rattle.drill_replay.proofs.{Covered.distinct_covered, Meant.earlier_few, Meant.later_few}
 use Rattle.drill_replay.proofs.page_laws.pages_have_few_terms.Goals as goal
 
 pub returns : goal.returns

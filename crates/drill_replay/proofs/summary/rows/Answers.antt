@@ -2,9 +2,8 @@
 use Rattle.std.proofs.Common.{◌≡◌, List, IfOk, subst}
 use Rattle.entity_model.specs.declared.id.EntityId.{EntityId}
 use Rattle.rdf_term.specs.Order.{triple_cmp}
-use Rattle.replay_model.specs.Union.{union}
-use Rattle.replay_model.specs.Versions.{meaning_by}
-use Rattle.world.specs.Meaning.{meaning}
+use Rattle.replay_model.specs.{Union.union, Versions.meaning_by}
+use Rattle.fetched_pages.specs.Meaning.{meaning}
 use Rattle.drill_replay.proofs.summary.rows.Goals as goal
 
 pub returns : goal.returns

@@ -3,8 +3,7 @@ use Rattle.std.proofs.Common.{◌∙◌, inl, refl, ap}
 use Rattle.std.proofs.lemmas.Result.{err_from_is_err_and}
 use Rattle.replica.specs.Replica.{ReplicaState}
 use Rattle.following.specs.Following.{follow_moment}
-use Rattle.following.proofs.Ended.{broken_off, ended}
-use Rattle.following.proofs.KnownBytes.{nothing_taken_of}
+use Rattle.following.proofs.{Ended.broken_off, Ended.ended, KnownBytes.nothing_taken_of}
 use Rattle.following.proofs.following.follow.Goals as goal
 
 pub returns-in_err-replica-clause-err : goal.returns-in_err-replica-clause-err

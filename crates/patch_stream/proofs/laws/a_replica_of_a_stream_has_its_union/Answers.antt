@@ -1,7 +1,6 @@
 -- The records are those of a producer, whose triples at the end are the union.
 use Rattle.patch_stream.specs.Stream.{steps_to_end}
-use Rattle.patch_stream.proofs.Chains.{chain_to_end}
-use Rattle.patch_stream.proofs.Streamed.{replica_has}
+use Rattle.patch_stream.proofs.{Chains.chain_to_end, Streamed.replica_has}
 use Rattle.patch_stream.proofs.laws.a_replica_of_a_stream_has_its_union.Goals as goal
 
 pub returns : goal.returns

@@ -1,8 +1,6 @@
 -- Their parts are sets of readable triples, and their numbers fit.
 use Rattle.patch_stream.specs.Stream.{steps_to_end}
-use Rattle.patch_stream.proofs.Bounds.{few_enough}
-use Rattle.patch_stream.proofs.Chains.{chain_to_end}
-use Rattle.patch_stream.proofs.Readable.{can_be_read}
+use Rattle.patch_stream.proofs.{Bounds.few_enough, Chains.chain_to_end, Readable.can_be_read}
 use Rattle.patch_stream.proofs.laws.records_of_a_stream_can_be_read.Goals as goal
 
 pub returns : goal.returns

@@ -1,7 +1,6 @@
 -- By the split byte by byte.
 use Rattle.std.proofs.Common.{◌∙◌, ap}
-use Rattle.replica.specs.declared.term_end.TermState.TheVariants.{Outside}
-use Rattle.replica.specs.TermEnd.{split_term}
+use Rattle.replica.specs.{declared.term_end.TermState.TheVariants.Outside, TermEnd.split_term}
 use Rattle.replica.proofs.TermEnds.{slices_are, slices_join, term_ends}
 use Rattle.replica.proofs.term_end.split_term.Goals as goal
 

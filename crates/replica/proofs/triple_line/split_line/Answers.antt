@@ -1,7 +1,6 @@
 -- Text by text.
 use Rattle.std.proofs.Common.{◌≡◌, ◌∙◌, sym, false, true≢false, List, ℕ, ◌∷◌, [], ◌++◌}
-use Rattle.rdf_term.specs.declared.triple.Triple.{Triple}
-use Rattle.rdf_term.specs.Text.{term_text}
+use Rattle.rdf_term.specs.{declared.triple.Triple.Triple, Text.term_text}
 use Rattle.replica.proofs.TripleLines.{line_joins}
 use Rattle.replica.proofs.triple_line.split_line.Goals as goal
 

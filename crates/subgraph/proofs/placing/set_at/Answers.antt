@@ -1,7 +1,6 @@
 -- One graph of the list has the set, or a fault changed none.
 use Rattle.std.proofs.Common.{◌≡◌, ◌<◌, ◌≤◌, Option, Some, IfSome, length, slice_get, refl, sym, subst}
-use Rattle.std.proofs.lemmas.Option.{slice_get_read}
-use Rattle.std.proofs.lemmas.Result.{on_ok_weaker}
+use Rattle.std.proofs.{lemmas.Option.slice_get_read, lemmas.Result.on_ok_weaker}
 use Rattle.sorted_sets.specs.Rising.{sorted}
 use Rattle.rdf_term.specs.Order.{triple_cmp}
 use Rattle.subgraph.specs.Entries.{GraphState, terms_with, union_of}

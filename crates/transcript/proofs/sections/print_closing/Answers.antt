@@ -2,10 +2,9 @@
 use Rattle.std.proofs.Common.{ℕ, List, [], ◌++◌, cond, Ok}
 use Rattle.std.proofs.lemmas.Result.{err_from_is_err_and}
 use Rattle.rdf_term.specs.Order.{triple_cmp}
-use Rattle.replay_model.specs.Transcript.{export_section, side_section, state_section}
-use Rattle.replay_model.specs.Union.{union}
+use Rattle.replay_model.specs.{Transcript.export_section, Transcript.side_section, Transcript.state_section, Union.union}
 use Rattle.replay_model.specs.Versions.{meaning_by}
-use Rattle.world.specs.Meaning.{meaning}
+use Rattle.fetched_pages.specs.Meaning.{meaning}
 use Rattle.text_output.proofs.Parts.{prints_both, prints_first}
 use Rattle.transcript.proofs.sections.print_closing.Goals as goal
 

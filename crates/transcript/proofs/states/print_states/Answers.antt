@@ -1,8 +1,7 @@
 -- Over the ids of the records as over their entries.
 use Rattle.std.proofs.Common.{ℕ, List, flat_map, ap, ◌∙◌}
 use Rattle.entity_model.specs.declared.id.EntityId.{EntityId}
-use Rattle.replay_model.specs.Records.{Records, record_of}
-use Rattle.replay_model.specs.Transcript.{state_line}
+use Rattle.replay_model.specs.{Records.Records, Records.record_of, Transcript.state_line}
 use Rattle.transcript.proofs.ByIds.{states_over_ids}
 use Rattle.transcript.proofs.states.print_states.Goals as goal
 

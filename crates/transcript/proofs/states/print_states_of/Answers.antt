@@ -1,8 +1,7 @@
 -- One line more, and where a line isn't begun or isn't ended.
 use Rattle.std.proofs.Common.{◌∙◌}
 use Rattle.std.proofs.lemmas.Result.{err_from_is_err_and}
-use Rattle.replay_model.specs.Records.{record_of}
-use Rattle.replay_model.specs.Transcript.{state_line}
+use Rattle.replay_model.specs.{Records.record_of, Transcript.state_line}
 use Rattle.text_output.proofs.Parts.{text_cut_short, text_more, text_not_begun, text_printed}
 use Rattle.transcript.proofs.states.print_states_of.Goals as goal
 

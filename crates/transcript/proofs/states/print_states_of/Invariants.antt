@@ -1,8 +1,7 @@
 -- The lines of the states so far were written.
 use Rattle.std.proofs.Common.{take, Ok}
 use Rattle.std.specs.List.{flat_map}
-use Rattle.replay_model.specs.Records.{record_of}
-use Rattle.replay_model.specs.Transcript.{state_line}
+use Rattle.replay_model.specs.{Records.record_of, Transcript.state_line}
 use Rattle.text_output.specs.Printing.{Prints, output}
 use Rattle.transcript.proofs.states.print_states_of.Given as goal
 

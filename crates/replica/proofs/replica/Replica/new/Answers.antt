@@ -1,8 +1,7 @@
 -- Nothing was received.
 use Rattle.std.proofs.Common.{◌≡◌, [], None, Some, subst, sym}
 use Rattle.replica.specs.Replica.{AreOwnedOnce, Follows}
-use Rattle.replica.proofs.Applied.{no_keys, none_once}
-use Rattle.replica.proofs.Following.{follows_nothing}
+use Rattle.replica.proofs.{Applied.no_keys, Applied.none_once, Following.follows_nothing}
 use Rattle.replica.proofs.replica.Replica.new.Goals as goal
 
 pub invariant_of-result : goal.invariant_of-result

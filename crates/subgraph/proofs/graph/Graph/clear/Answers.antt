@@ -2,8 +2,7 @@
 use Rattle.std.proofs.Common.{List, [], sym, subst}
 use Rattle.rdf_term.specs.declared.triple.Triple.{Triple}
 use Rattle.slot_keys.specs.declared.key.Key.{Key}
-use Rattle.triple_store.specs.Counts.{Exchanges}
-use Rattle.triple_store.specs.StoreState.{AreKeysOf, counts_in, limit_of}
+use Rattle.triple_store.specs.{Counts.Exchanges, StoreState.AreKeysOf, StoreState.counts_in, StoreState.limit_of}
 use Rattle.subgraph.proofs.Stepping.{left_counted, none_counted, sets_left, step_left}
 use Rattle.subgraph.proofs.graph.Graph.clear.Goals as goal
 

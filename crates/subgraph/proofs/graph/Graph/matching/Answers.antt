@@ -1,7 +1,6 @@
 -- The stored triples are those of the entities together.
 use Rattle.std.proofs.Common.{◌≡◌, List, IfOk, subst}
-use Rattle.rdf_term.specs.declared.triple.Triple.{Triple}
-use Rattle.rdf_term.specs.Pattern.{rows}
+use Rattle.rdf_term.specs.{declared.triple.Triple.Triple, Pattern.rows}
 use Rattle.subgraph.proofs.Stored.{stored_union}
 use Rattle.subgraph.proofs.graph.Graph.matching.Goals as goal
 

@@ -1,17 +1,14 @@
 -- The entity has other keys, and its set is what they stand for; or a fault changed nothing.
 use Rattle.std.proofs.Common.{◌≡◌, ◌<◌, ◌≤◌, cond, Some, Err, List, sym, ap, subst, ◌∙◌, arith}
 use Rattle.std.specs.Ordering.{eq_by_cmp}
-use Rattle.entity_model.specs.declared.id.EntityId.{EntityId}
-use Rattle.entity_model.specs.EntityId.{entity_cmp}
+use Rattle.entity_model.specs.{declared.id.EntityId.EntityId, EntityId.entity_cmp}
 use Rattle.term_pool.specs.declared.fault.PoolFault.TheVariants.{Full}
-use Rattle.triple_store.specs.StoreState.{limit_of}
-use Rattle.triple_store.specs.declared.telling.Telling.TheVariants.{Nothing}
+use Rattle.triple_store.specs.{StoreState.limit_of, declared.telling.Telling.TheVariants.Nothing}
 use Rattle.triple_store.proofs.Whole.{IsWhole, whole, whole_full}
 use Rattle.slot_keys.specs.declared.keys.Keys.{Keys}
 use Rattle.subgraph.specs.Graph.{IsInStep, keys_at, rising_keys, sets_in}
 use Rattle.subgraph.proofs.Stepping.{are_stored, sets_same, sets_set, step_same, step_set}
-use Rattle.subgraph.proofs.Stored.{may_come, room_is}
-use Rattle.subgraph.proofs.graph.Graph.set.Goals.{After-put}
+use Rattle.subgraph.proofs.{Stored.may_come, Stored.room_is, graph.Graph.set.Goals.After-put}
 use Rattle.subgraph.proofs.graph.Graph.set.Goals as goal
 
 came : (c : After-put) → IsWhole Nothing c.self.inside.store c.exchange.new.self c.keys_of.result.rising.now c.args.new.now c.in-Ok.field-0

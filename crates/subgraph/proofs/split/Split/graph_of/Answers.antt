@@ -1,8 +1,7 @@
 -- The graph that has it is that of its entry.
 use Rattle.std.proofs.Common.{◌<◌, ◌≡◌, ℕ, List, Option, None, Some, IfSome, true, is_some, length}
 use Rattle.entity_model.specs.declared.id.EntityId.{EntityId}
-use Rattle.subgraph.specs.Entries.{GraphState}
-use Rattle.subgraph.specs.Placing.{set_at}
+use Rattle.subgraph.specs.{Entries.GraphState, Placing.set_at}
 use Rattle.subgraph.proofs.Placed.{graph_told}
 use Rattle.subgraph.proofs.split.Split.graph_of.Goals as goal
 

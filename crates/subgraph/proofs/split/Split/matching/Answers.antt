@@ -1,8 +1,7 @@
 -- The triples of a graph are those of its entities together.
 use Rattle.std.proofs.Common.{◌≡◌, Some, List, IfOk, length, slice_get, refl, sym, subst}
 use Rattle.std.proofs.lemmas.Option.{slice_get_read}
-use Rattle.rdf_term.specs.declared.triple.Triple.{Triple}
-use Rattle.rdf_term.specs.Pattern.{rows}
+use Rattle.rdf_term.specs.{declared.triple.Triple.Triple, Pattern.rows}
 use Rattle.subgraph.proofs.Placed.{graph_is}
 use Rattle.subgraph.proofs.split.Split.matching.Goals as goal
 

@@ -4,11 +4,9 @@ use Rattle.std.specs.FinMap as map
 use Rattle.std.proofs.lemmas.Result.{on_ok_weaker}
 use Rattle.sorted_sets.specs.Rising.{sorted}
 use Rattle.sorted_sets.proofs.Rising.{sorted_rising}
-use Rattle.rdf_term.specs.declared.triple.Triple.{Triple}
-use Rattle.rdf_term.specs.Order.{triple_cmp, triple_cmp-total}
+use Rattle.rdf_term.specs.{declared.triple.Triple.Triple, Order.triple_cmp, Order.triple_cmp-total}
 use Rattle.rdf_term.proofs.Texts.{triple_cmp-IsAntisymmetric}
-use Rattle.subgraph.specs.Entries.{SplitState}
-use Rattle.subgraph.specs.Split.{entry}
+use Rattle.subgraph.specs.{Entries.SplitState, Split.entry}
 use Rattle.subgraph.proofs.split.Split.set.Goals as goal
 
 pub returns-clause-ok : goal.returns-clause-ok

@@ -1,8 +1,7 @@
 -- An entity is named by the version of its page.
 use Rattle.std.proofs.Common.{refl, sym, ◌∙◌}
 use Rattle.world.specs.Keeping.{seen}
-use Rattle.world.proofs.ByVersion.{version_is}
-use Rattle.world.proofs.Stepping.{links}
+use Rattle.world.proofs.{ByVersion.version_is, Stepping.links}
 use Rattle.world.proofs.holdings.Holdings.held_version.Goals as goal
 
 pub returns-then-has : goal.returns-then-has

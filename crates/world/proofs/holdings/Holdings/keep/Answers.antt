@@ -1,12 +1,9 @@
 -- The page that is held stays.
 use Rattle.std.proofs.Common.{ap, ◌∙◌}
 use Rattle.replay_model.specs.Versions.{meaning_by}
-use Rattle.world.specs.InStep.{AreInStep}
-use Rattle.world.specs.Keeping.{seen}
-use Rattle.world.specs.Meaning.{meaning}
-use Rattle.world.proofs.Changing.{stored_still}
-use Rattle.world.proofs.Replacing.{stayed_seen}
-use Rattle.world.proofs.Stepping.{are_holders, has_room, stay_step}
+use Rattle.world.specs.{InStep.AreInStep, Keeping.seen}
+use Rattle.fetched_pages.specs.Meaning.{meaning}
+use Rattle.world.proofs.{Changing.stored_still, PuttingIn.on_err, PuttingIn.seen_there, Replacing.stayed_seen, Stepping.stay_step}
 use Rattle.world.proofs.holdings.Holdings.keep.Goals.{After-from_residual, After-keep_record}
 use Rattle.world.proofs.holdings.Holdings.keep.Goals as goal
 
@@ -23,12 +20,6 @@ invariant_of-self c = before c
 pub invariant_of-self-2 : goal.invariant_of-self-2
 invariant_of-self-2 c = after c
 
-pub returns-in_err-make_room-clause-held : goal.returns-in_err-make_room-clause-held
-returns-in_err-make_room-clause-held c = has_room _ _ _ (before c)
-
-pub returns-in_err-make_room-clause-holders : goal.returns-in_err-make_room-clause-holders
-returns-in_err-make_room-clause-holders c = are_holders _ _ _ (before c)
-
 pub returns-clause-records : goal.returns-clause-records
 returns-clause-records c = rw (← c.self.view_is, ← c.make_room.ensures.records) (ap (seen c.self.inside.store) c.keep_record.ensures
     ∙ stayed_seen (meaning_by meaning c.self.inside.holders.by_two) c.self.inside.store c.make_room.new.table.records c.args.id c.args.after.state c.args.after.reconciled (rw c.make_room.ensures.records c.self.invariant.kept))
@@ -37,8 +28,6 @@ pub returns-clause-stored : goal.returns-clause-stored
 returns-clause-stored c = rw (← c.self.view_is)
     (stored_still c.self.inside.store c.self.inside.holders c.self.inside.holders c.self.inside.table.records c.keep_record.new.table.records c.self.invariant (after c))
 
-pub returns-clause-held : goal.returns-clause-held
-returns-clause-held c = has_room _ _ _ (after c)
-
-pub returns-clause-holders : goal.returns-clause-holders
-returns-clause-holders c = are_holders _ _ _ (after c)
+pub returns-in_err-make_room-clause-refused : goal.returns-in_err-make_room-clause-refused
+returns-in_err-make_room-clause-refused c = rw (← c.self.view_is)
+    (on_err c.from_residual.result (seen_there c.self.inside.store c.self.inside.table.records c.args.id ∙ c.in_err-make_room.ensures.refused))

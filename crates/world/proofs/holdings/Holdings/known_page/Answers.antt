@@ -1,11 +1,10 @@
 -- What is known of it stands beside its keys.
 use Rattle.std.proofs.Common.{sym, ◌∙◌}
 use Rattle.std.specs.Prelude.{IfSome}
-use Rattle.world.specs.Compared.{IsKnownPage}
+use Rattle.fetched_pages.specs.Compared.{IsKnownPage}
 use Rattle.world.specs.Keeping.{seen}
-use Rattle.world.proofs.ChangedPages.{known_has}
-use Rattle.world.proofs.Exchanging.{known_if}
-use Rattle.world.proofs.holdings.Holdings.known_page.Goals.{After-known_in}
+use Rattle.fetched_pages.proofs.ChangedPages.{known_has}
+use Rattle.world.proofs.{Exchanging.known_if, holdings.Holdings.known_page.Goals.After-known_in}
 use Rattle.world.proofs.holdings.Holdings.known_page.Goals as goal
 
 known : (c : After-known_in) → IfSome c.known_in.result (IsKnownPage (seen c.self.inside.store c.self.inside.table.records) c.self.inside.holders.by_two c.args.version c.args.id)

@@ -1,11 +1,10 @@
 -- Without records, triples and texts all is in step.
 use Rattle.std.proofs.Common.{ap}
 use Rattle.entity_state.specs.Tabled.{Tabled}
-use Rattle.world.specs.declared.kept.Kept.{Kept}
-use Rattle.world.specs.Holders.{ByVersion}
+use Rattle.world.specs.{declared.kept.Kept.Kept, Holders.ByVersion}
 use Rattle.world.proofs.Starting.{none_by, none_timed, started, starts}
 use Rattle.replay_model.specs.Versions.{meaning_by}
-use Rattle.world.specs.Meaning.{meaning}
+use Rattle.fetched_pages.specs.Meaning.{meaning}
 use Rattle.world.proofs.holdings.Holdings.new.Goals as goal
 
 pub invariant_of-result : goal.invariant_of-result

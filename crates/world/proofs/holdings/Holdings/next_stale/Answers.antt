@@ -1,10 +1,7 @@
 -- The stale entities are those of the other version.
 use Rattle.std.proofs.Common.{sym, ap, ◌∙◌}
-use Rattle.world.specs.Holders.{held_by, other_version}
-use Rattle.world.specs.Keeping.{seen}
-use Rattle.world.specs.WorldState.{first_of}
-use Rattle.world.proofs.ByVersion.{first_is_holder, stale_is}
-use Rattle.world.proofs.Stepping.{links}
+use Rattle.world.specs.{Holders.held_by, Holders.other_version, Keeping.seen, WorldState.first_of}
+use Rattle.world.proofs.{ByVersion.first_is_holder, ByVersion.stale_is, Stepping.links}
 use Rattle.world.proofs.holdings.Holdings.next_stale.Goals as goal
 
 pub returns-clause-entity : goal.returns-clause-entity

@@ -1,7 +1,7 @@
 -- Store and records say what lies in the region.
 use Rattle.world.proofs.Laying.{laid}
 use Rattle.replay_model.specs.Versions.{meaning_by}
-use Rattle.world.specs.Meaning.{meaning}
+use Rattle.fetched_pages.specs.Meaning.{meaning}
 use Rattle.world.proofs.holdings.Holdings.region.Goals as goal
 
 pub returns : goal.returns

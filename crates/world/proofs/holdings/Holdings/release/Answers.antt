@@ -1,14 +1,17 @@
 -- The page that was held goes.
-use Rattle.std.proofs.Common.{refl, sym, ap, ◌∙◌}
+use Rattle.std.proofs.Common.{◌≡◌, true≢false, inl, inr, refl, sym, ap, ◌∙◌}
 use Rattle.entity_model.specs.declared.mapping.MappingVersion.TheVariants.{Two}
+use Rattle.triple_store.specs.declared.telling.Telling.{Telling}
+use Rattle.triple_store.specs.declared.telling.Telling.TheVariants.{Nothing, Change as TheChange}
 use Rattle.triple_store.specs.StoreState.{counts_in}
-use Rattle.world.specs.Holders.{ByVersion, without_holder}
-use Rattle.world.specs.InStep.{AreInStep}
-use Rattle.world.specs.Keeping.{seen}
-use Rattle.world.proofs.Changing.{step_tells}
-use Rattle.world.proofs.Stepping.{are_holders, gone_seen, gone_step, has_room}
+use Rattle.world.specs.{Holders.ByVersion, Holders.without_holder, InStep.AreInStep, Keeping.seen}
+use Rattle.world.proofs.{Changing.step_tells, PuttingIn.on_err, PuttingIn.seen_there, Stepping.gone_seen, Stepping.gone_step}
 use Rattle.world.proofs.holdings.Holdings.release.Goals.{After-from_residual, After-remove-2}
 use Rattle.world.proofs.holdings.Holdings.release.Goals as goal
+
+must_tell : (telling : Telling) → (telling ≡ Nothing → ⊥) → telling ≡ TheChange
+must_tell Nothing never = absurd (never refl)
+must_tell TheChange never = refl
 
 before : (c : After-from_residual) → AreInStep c.self.inside.store c.self.inside.holders c.make_room.new.table.records
 before c = rw c.make_room.ensures.records c.self.invariant
@@ -26,20 +29,6 @@ invariant_of-self c = before c
 pub invariant_of-self-2 : goal.invariant_of-self-2
 invariant_of-self-2 c = after c
 
-pub returns-in_err-make_room-clause-held : goal.returns-in_err-make_room-clause-held
-returns-in_err-make_room-clause-held c = has_room _ _ _ (before c)
-
-pub returns-in_err-make_room-clause-holders : goal.returns-in_err-make_room-clause-holders
-returns-in_err-make_room-clause-holders c = are_holders _ _ _ (before c)
-
-pub returns-in_err-change-clause-held : goal.returns-in_err-change-clause-held
-returns-in_err-change-clause-held c = rw c.in_err-change.ensures.released.err
-    (has_room c.self.inside.store c.self.inside.holders c.make_room.new.table.records (rw c.make_room.ensures.records c.self.invariant))
-
-pub returns-in_err-change-clause-holders : goal.returns-in_err-change-clause-holders
-returns-in_err-change-clause-holders c = rw c.in_err-change.ensures.released.err
-    (are_holders c.self.inside.store c.self.inside.holders c.make_room.new.table.records (rw c.make_room.ensures.records c.self.invariant))
-
 pub returns-clause-records : goal.returns-clause-records
 returns-clause-records c = rw (← c.self.view_is, ← c.make_room.ensures.records) (ap (seen c.replace.new.store) c.replace.ensures.records
     ∙ gone_seen c.self.inside.store c.self.inside.holders c.make_room.new.table.records c.args.id (rw c.make_room.ensures.records c.self.invariant) c.release.new.self c.replace.new.store
@@ -50,8 +39,10 @@ returns-clause-change c = rw (← c.self.view_is)
     (step_tells c.self.inside.store c.replace.new.store c.self.inside.holders c.remove-2.new.self c.self.inside.table.records c.replace.new.table.records c.self.invariant (after c)
     (counts_in c.self.inside.store) (counts_in c.release.new.self) refl (sym c.replace.ensures.counts) c.args.telling c.in_ok-change.change c.in_ok-change.ensures.released.told)
 
-pub returns-clause-held : goal.returns-clause-held
-returns-clause-held c = has_room _ _ _ (after c)
+pub returns-in_err-make_room-clause-refused : goal.returns-in_err-make_room-clause-refused
+returns-in_err-make_room-clause-refused c = rw (← c.self.view_is)
+    (on_err c.from_residual.result (inl (seen_there c.self.inside.store c.self.inside.table.records c.args.id ∙ c.in_err-make_room.ensures.refused)))
 
-pub returns-clause-holders : goal.returns-clause-holders
-returns-clause-holders c = are_holders _ _ _ (after c)
+pub returns-in_err-change-clause-refused : goal.returns-in_err-change-clause-refused
+returns-in_err-change-clause-refused c =
+    on_err c.from_residual-in_err-change.result (inr (must_tell c.args.telling (λ is. true≢false (sym (c.in_err-change.ensures.released.free is)))))

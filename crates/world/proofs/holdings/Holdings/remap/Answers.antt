@@ -8,18 +8,12 @@ use Rattle.term_pool.specs.declared.fault.PoolFault.TheVariants.{Full}
 use Rattle.entity_state.specs.declared.record.Held.{Held}
 use Rattle.triple_store.specs.StoreState.{beside, counts_in, limit_of}
 use Rattle.triple_store.proofs.Whole.{IsWhole, whole, whole_full}
-use Rattle.replay_model.specs.Records.{Bytes}
-use Rattle.replay_model.specs.Union.{triples_held}
-use Rattle.replay_model.specs.Versions.{meaning_by}
-use Rattle.world.specs.Holders.{ByVersion}
-use Rattle.world.specs.InStep.{AreInStep}
-use Rattle.world.specs.Keeping.{seen}
-use Rattle.world.specs.Meaning.{meaning}
-use Rattle.world.proofs.ByVersion.{moved_by_two, moves, undone}
-use Rattle.world.proofs.Changing.{step_tells}
-use Rattle.world.proofs.Moving.{are_stored, held_is, seen_again}
-use Rattle.world.proofs.Rooming.{countable_kept, room_is}
-use Rattle.world.proofs.Stepping.{again_seen, again_step, are_holders, has_room, links, refused_step}
+use Rattle.replay_model.specs.{Records.Bytes, Union.triples_held, Versions.meaning_by}
+use Rattle.world.specs.{Holders.ByVersion, InStep.AreInStep, Keeping.seen}
+use Rattle.fetched_pages.specs.Meaning.{meaning}
+use Rattle.world.proofs.{ByVersion.moved_by_two, ByVersion.moves, ByVersion.undone, Changing.step_tells}
+use Rattle.world.proofs.{Moving.are_stored, Moving.held_is, Moving.seen_again, Rooming.countable_kept, Rooming.room_is}
+use Rattle.world.proofs.Stepping.{again_seen, again_step, links, refused_step}
 use Rattle.world.proofs.holdings.Holdings.remap.Goals.{After-remove, After-take_back}
 use Rattle.world.proofs.holdings.Holdings.remap.Goals as goal
 
@@ -66,18 +60,6 @@ invariant_of-self-in-Ok-exchange c = after c
 pub invariant_of-self-in-Err : goal.invariant_of-self-in-Err
 invariant_of-self-in-Err c = refused c
 
-pub returns-in_default-clause-held : goal.returns-in_default-clause-held
-returns-in_default-clause-held c = rw (← c.self.view_is) (has_room _ _ _ c.self.invariant)
-
-pub returns-in_default-clause-holders : goal.returns-in_default-clause-holders
-returns-in_default-clause-holders c = rw (← c.self.view_is) (are_holders _ _ _ c.self.invariant)
-
-pub returns-in_default-add-clause-held : goal.returns-in_default-add-clause-held
-returns-in_default-add-clause-held c = rw c.in_default-add.ensures.err (has_room _ _ _ c.self.invariant)
-
-pub returns-in_default-add-clause-holders : goal.returns-in_default-add-clause-holders
-returns-in_default-add-clause-holders c = rw c.in_default-add.ensures.err (are_holders _ _ _ c.self.invariant)
-
 pub returns-in-Ok-exchange-clause-records : goal.returns-in-Ok-exchange-clause-records
 returns-in-Ok-exchange-clause-records c = rw (← c.self.view_is) (ap (seen c.exchange.new.self) c.set_keys.ensures
     ∙ again_seen c.self.inside.store c.self.inside.holders c.self.inside.table.records c.args.id c.self.invariant c.exchange.new.self
@@ -99,12 +81,6 @@ returns-in-Ok-exchange-clause-change c = rw (← c.self.view_is)
     (step_tells c.self.inside.store c.exchange.new.self c.self.inside.holders c.remove.new.self c.self.inside.table.records c.set_keys.new.table.records c.self.invariant (after c)
     (counts_in c.self.inside.store) (counts_in c.exchange.new.self) refl refl c.args.telling c.in-Ok-exchange.field-0.change (came c).told)
 
-pub returns-in-Ok-exchange-clause-held : goal.returns-in-Ok-exchange-clause-held
-returns-in-Ok-exchange-clause-held c = has_room _ _ _ (after c)
-
-pub returns-in-Ok-exchange-clause-holders : goal.returns-in-Ok-exchange-clause-holders
-returns-in-Ok-exchange-clause-holders c = are_holders _ _ _ (after c)
-
 pub returns-in-Err-clause-err : goal.returns-in-Err-clause-err
 returns-in-Err-clause-err c = rw (← c.self.view_is) (λ i. record {
   records = seen_again (beside c.self.inside.store) (beside c.exchange.new.self) c.self.inside.table.records c.exchange.ensures.rest.beside i;
@@ -123,12 +99,6 @@ returns-in-Err-clause-full c = rw (← c.self.view_is) (λ is.
     ∙ ap (λ (h : Option (Held Bytes)). has triple_cmp t (triples_held (meaning c.args.version) c.args.id h)) (sym (held_is c.self.inside.store c.self.inside.table.records c.args.id)))) (whole_full c.self.inside.store c.keys_of.result.rising.now c.in-Ok.triples c.self.invariant.kept.sound
     (are_stored (meaning_by meaning c.self.inside.holders.by_two) c.self.inside.store c.self.inside.store c.self.inside.table.records c.args.id _ c.self.invariant.kept (λ _ _ is. is) c.keys_of.ensures)
     (c.in-Err.ensures.exchanged.full (ap (λ fault. Err fault) same))))
-
-pub returns-in-Err-clause-held : goal.returns-in-Err-clause-held
-returns-in-Err-clause-held c = has_room _ _ _ (refused c)
-
-pub returns-in-Err-clause-holders : goal.returns-in-Err-clause-holders
-returns-in-Err-clause-holders c = are_holders _ _ _ (refused c)
 
 pub returns-in-Ok-exchange-clause-triples : goal.returns-in-Ok-exchange-clause-triples
 returns-in-Ok-exchange-clause-triples c = rw (← c.self.view_is) (record {

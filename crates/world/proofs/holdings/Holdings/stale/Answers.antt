@@ -1,9 +1,7 @@
 -- The stale entities are those of the other version.
 use Rattle.std.proofs.Common.{sym, ap, length, ◌∙◌}
-use Rattle.world.specs.Holders.{held_by}
-use Rattle.world.specs.Keeping.{seen}
-use Rattle.world.proofs.ByVersion.{none_stale, stale_is}
-use Rattle.world.proofs.Stepping.{links}
+use Rattle.world.specs.{Holders.held_by, Keeping.seen}
+use Rattle.world.proofs.{ByVersion.none_stale, ByVersion.stale_is, Stepping.links}
 use Rattle.world.proofs.holdings.Holdings.stale.Goals as goal
 
 pub returns-clause-count : goal.returns-clause-count

@@ -2,7 +2,7 @@
 use Rattle.std.proofs.Common.{[], refl, ◌∙◌}
 use Rattle.world.proofs.Rooming.{room_is}
 use Rattle.replay_model.specs.Versions.{meaning_by}
-use Rattle.world.specs.Meaning.{meaning}
+use Rattle.fetched_pages.specs.Meaning.{meaning}
 use Rattle.world.proofs.holdings.Holdings.terms.Goals as goal
 
 pub returns-clause-count : goal.returns-clause-count

@@ -2,9 +2,8 @@
 use Rattle.std.proofs.Common.{◌≡◌, List, IfOk, subst}
 use Rattle.rdf_term.specs.declared.triple.Triple.{Triple}
 use Rattle.replay_model.specs.Versions.{meaning_by}
-use Rattle.world.specs.Meaning.{meaning}
-use Rattle.world.proofs.Moving.{are_stored}
-use Rattle.world.proofs.OneSet.{set_is}
+use Rattle.fetched_pages.specs.Meaning.{meaning}
+use Rattle.world.proofs.{Moving.are_stored, OneSet.set_is}
 use Rattle.world.proofs.holdings.Holdings.triples_of.Goals as goal
 
 pub rows_of-requires : goal.rows_of-requires

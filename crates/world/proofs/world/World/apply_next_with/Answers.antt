@@ -3,29 +3,21 @@ use Rattle.std.proofs.Common.{◌≤◌, List, option_copied, ap, subst, sym, �
 use Rattle.rdf_term.specs.declared.triple.Triple.{Triple}
 use Rattle.entity_json.specs.Document.{unfit_of}
 use Rattle.entity_model.specs.declared.id.EntityId.{EntityId}
-use Rattle.replay_model.specs.Entries.{HoldsUnlessOpen}
-use Rattle.replay_model.specs.Play.{Played}
-use Rattle.replay_model.specs.Records.{record_of}
-use Rattle.replay_model.specs.Replies.{HoldsDocument}
-use Rattle.replay_model.specs.Union.{triples_held}
+use Rattle.replay_model.specs.{Entries.HoldsUnlessOpen, Play.Played, Records.record_of, Replies.HoldsDocument, Union.triples_held}
 use Rattle.replay_model.specs.Versions.{meaning_by}
-use Rattle.replay_model.proofs.Documents.{documents-apply}
-use Rattle.replay_model.proofs.Settled.{holds-apply}
-use Rattle.world.specs.Fetched.{reply_or_any}
-use Rattle.world.specs.Meaning.{meaning}
-use Rattle.world.specs.Roomed.{room_with}
-use Rattle.world.specs.WorldState.{played_of}
-use Rattle.world.proofs.Fit.{reply_gives}
-use Rattle.world.proofs.Giving.{page_given}
-use Rattle.world.proofs.Rooming.{stored_page}
+use Rattle.replay_model.proofs.{Documents.documents-apply, Settled.holds-apply}
+use Rattle.fetched_pages.specs.{Fetched.reply_or_any, Meaning.meaning}
+use Rattle.world.specs.{Roomed.room_with, WorldState.played_of}
+use Rattle.fetched_pages.proofs.Fit.{reply_gives}
+use Rattle.world.proofs.{Giving.page_given, Rooming.stored_page, Shown.outcome_calls, Shown.outcome_shown}
 use Rattle.world.proofs.world.World.apply_next_with.Goals as goal
 
 pub invariant_of-self : goal.invariant_of-self
 invariant_of-self g c =
     let was : Played = played_of c.self.inside.holdings c.self.inside.side.entries in (
       subst (λ (p : Played). HoldsUnlessOpen p) (sym c.in-Ok.ensures.applied) (holds-apply (λ _ _. reply_or_any c.in_ok-reply.reply) was c.in-Some.event c.self.invariant.0),
-      c.in-Ok.ensures.held,
-      c.in-Ok.ensures.holders,
+      c.facts.ensures.room,
+      c.facts.ensures.holders,
       subst (λ (p : Played). (x : EntityId) → HoldsDocument unfit_of x (record_of p.records x).held) (sym c.in-Ok.ensures.applied)
           (documents-apply unfit_of c.in-Some.event (reply_or_any c.in_ok-reply.reply) (reply_gives _ _ c.in-Some.event.entity _ (reply_or_any c.in_ok-reply.reply) c.in_ok-reply.ensures.reply) was c.self.invariant.3),
     )
@@ -44,3 +36,11 @@ pub returns-in-Ok-clause-routed : goal.returns-in-Ok-clause-routed
 returns-in-Ok-clause-routed g c = rw (← c.self.view_is)
     (page_given (option_copied c.args.routes) c.self.inside.holdings.by_two c.self.inside.mapping (played_of c.self.inside.holdings c.self.inside.side.entries) (played_of c.apply.new.self c.apply.new.side.entries) c.in-Some.event c.in_ok-reply.reply
     c.in-Ok.field-0.outcome c.in-Ok.field-0.routed (rw (← c.self.view_is) at c.in_ok-reply.ensures.meant) c.in_ok-reply.ensures.routed c.in-Ok.ensures.applied c.in-Ok.ensures.outcome c.in-Ok.ensures.routed)
+
+pub returns-in-Ok-clause-shown : goal.returns-in-Ok-clause-shown
+returns-in-Ok-clause-shown g c =
+    outcome_shown c.self.inside.holdings.records c.in-Some.event c.in-Ok.field-0.outcome c.in_ok-reply.reply c.in-Ok.ensures.outcome (rw (← c.self.view_is) at c.in_ok-reply.ensures.wanted) _ _ _ _ c.in_ok-reply.ensures.shown
+
+pub returns-in-Ok-clause-calls : goal.returns-in-Ok-clause-calls
+returns-in-Ok-clause-calls g c =
+    outcome_calls c.self.inside.holdings.records c.in-Some.event c.in-Ok.field-0.outcome c.in_ok-reply.reply c.in-Ok.ensures.outcome (rw (← c.self.view_is) at c.in_ok-reply.ensures.wanted) _ _ c.in_ok-reply.ensures.calls

@@ -1,12 +1,10 @@
 -- A world without records holds what it should.
 use Rattle.std.proofs.Common.{[], true≢false, sym}
 use Rattle.std.specs.FinMap.{len-empty}
-use Rattle.replay_model.specs.Play.{nothing_played}
-use Rattle.replay_model.specs.Versions.{meaning_by}
+use Rattle.replay_model.specs.{Play.nothing_played, Versions.meaning_by}
 use Rattle.replay_model.proofs.Settled.{holds-nothing}
-use Rattle.world.specs.Meaning.{meaning}
-use Rattle.world.proofs.Rooming.{nothing_held}
-use Rattle.world.proofs.Starting.{no_documents}
+use Rattle.fetched_pages.specs.Meaning.{meaning}
+use Rattle.world.proofs.{Rooming.nothing_held, Starting.no_documents}
 use Rattle.world.proofs.world.World.new.Goals as goal
 
 pub invariant_of-result : goal.invariant_of-result

@@ -1,5 +1,6 @@
--- The owners are those of the pages.
+-- The count of a triple is the number of its owners.
+use Rattle.std.proofs.Common.{◌∙◌}
 use Rattle.world.proofs.world.World.owners.Goals as goal
 
 pub returns : goal.returns
-returns c = rw (← c.self.view_is) c.owners.ensures
+returns c = rw (← c.self.view_is) (c.owners.ensures.count ∙ c.store.ensures.counts c.args.triple.now)

@@ -1,0 +1,4 @@
+pub mod ChangedPages
+pub mod Fit
+pub mod Listing
+pub mod Means

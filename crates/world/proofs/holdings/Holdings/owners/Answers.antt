@@ -1,6 +1,0 @@
--- The count of a triple is the number of its owners.
-use Rattle.std.proofs.Common.{◌∙◌}
-use Rattle.world.proofs.holdings.Holdings.owners.Goals as goal
-
-pub returns : goal.returns
-returns c = rw (← c.self.view_is) (c.owners.ensures.count ∙ c.self.invariant.kept.counted.owned c.args.triple.now)

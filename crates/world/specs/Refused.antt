@@ -1,0 +1,27 @@
+-- When an application may be refused memory.
+use Rattle.std.specs.Prelude.{◌≡◌, true, false, Some, ◌⊎◌}
+use Rattle.std.specs.FinMap as map
+use Rattle.entity_model.specs.declared.event.Event.{Event}
+use Rattle.entity_state.specs.{declared.state.Mode.Mode, Standing.standing_after, Standing.standing_of, Standing.standing_wants}
+use Rattle.entity_state.specs.State.{is_deleted, state_after}
+use Rattle.reorder_buffer.specs.Buffered.{first_due}
+use Rattle.replay_model.specs.Records.{Records, record_of}
+use Rattle.triple_store.specs.{declared.telling.Telling.Telling, declared.telling.Telling.TheVariants.Change as TheChange}
+use Rattle.world.specs.WorldState.{WorldState}
+
+-- the triples of a page that is dropped are told
+pub record TellsDropped (telling : Telling) (mode : Mode) : Type 0 where
+  pub told : telling ≡ TheChange
+  pub dropped : is_deleted mode ≡ true
+
+-- an application takes memory only where its event wants a fetch, or its entity has no record, or it tells what it drops
+abbrev pub TakesMemory : Telling → Records → Event → Type 0
+TakesMemory telling records e =
+    (standing_wants (standing_after (standing_of (record_of records e.entity)) e) ≡ true)
+    ⊎ ((map.contains_key records e.entity ≡ false) ⊎ TellsDropped telling (state_after (record_of records e.entity).state e).mode)
+
+-- the application of the least due event takes memory
+pub record MayBeRefused (telling : Telling) (old : WorldState) : Type 0 where
+  pub event : Event
+  pub due : first_due old.replay.buffer ≡ Some event
+  pub takes : TakesMemory telling old.replay.played.records event
