@@ -3,49 +3,37 @@ use Rattle.std.proofs.Common.{◌≡◌, ◌∙◌, refl, sym, ap, subst, inl, i
 use Rattle.std.proofs.lemmas.List.Elements.{filter_map-append}
 use Rattle.delivery.specs.declared.Delivery.{Delivery}
 use Rattle.delivery.specs.declared.Delivery.TheVariants.{Event as Told, Watermark, Ask, Mapping, Match}
-use Rattle.entity_model.specs.declared.event.Event.{Event}
-use Rattle.entity_model.specs.declared.mapping.MappingVersion.{MappingVersion}
+use Rattle.entity_model.specs.{declared.event.Event.Event, declared.mapping.MappingVersion.MappingVersion}
 use Rattle.entity_model.specs.declared.mapping.MappingVersion.TheVariants.{One}
-use Rattle.reorder_buffer.specs.Buffered.{first_due}
-use Rattle.reorder_buffer.specs.declared.taken.Taken.{Taken}
-use Rattle.replay_model.specs.Acceptance.{mapping_of}
-use Rattle.replay_model.specs.Explained.{revision_wanted}
-use Rattle.replay_model.specs.Play.{Replies, nothing_played}
+use Rattle.reorder_buffer.specs.{Buffered.first_due, declared.taken.Taken.Taken}
+use Rattle.replay_model.specs.{Acceptance.mapping_of, Explained.revision_wanted, Play.Replies}
 use Rattle.replay_model.specs.Replies.{failed_events, source_replies}
 use Rattle.replay_model.specs.ReplayState.{ReplayState, after_end, after_some, entered, following, following_to_end, nothing_delivered, nothing_delivered_within}
 use Rattle.replay_model.specs.Transcript.{Question, for_triples, for_bindings, asking, asks, matches, question_of}
 use Rattle.world.specs.WorldState.{WorldState}
 use Rattle.text_output.specs.Printing.{Output}
-use Rattle.drill.specs.Drill.{IsSize, contents_of, drill}
-use Rattle.drill.specs.Source.{Source}
+use Rattle.drill.specs.{Drill.IsSize, Drill.contents_of, Drill.drill, Source.Source}
 use Rattle.drill_replay.specs.declared.counts.DrillCounts.{DrillCounts}
 use Rattle.drill_replay.specs.Playing.{Counted, HasBegun, HasFew, IsByFirst, IsPartOf, StandsAtEnd, answer_of, with_answer}
 use Rattle.drill_replay.specs.Summary.{drilled, replies_of}
-use Rattle.drill_replay.proofs.Counting.{counted-next}
-use Rattle.drill_replay.proofs.NeverFull.{never_over}
+use Rattle.drill_replay.proofs.{Counting.counted-next, NeverFull.never_over}
 use Rattle.drill_replay.proofs.Versions.{drill_by_first, part_asks_none, part_brings_none, part_by_first, part_matches_none}
-use Rattle.session.specs.declared.drill_playing.DrillRun.{DrillRun}
-use Rattle.session.specs.declared.stop.Stop.{Stop}
-use Rattle.session.specs.declared.stop.Stop.TheVariants.{OutOfMemory as StopOutOfMemory}
-use Rattle.checkpoint.specs.declared.numbers.Numbers.{Numbers}
-use Rattle.session.specs.declared.report.Report.TheVariants.{Answers}
-use Rattle.session.specs.declared.stop.Halt.{Halt}
-use Rattle.session.specs.declared.stop.Halt.TheVariants.{Unapplied as NotApplied, Unprinted}
-use Rattle.term_pool.specs.declared.fault.PoolFault.TheVariants.{Full, OutOfMemory}
-use Rattle.session.specs.Moment.{HasCountedAt, RoseBy, no_numbers, Beginning, IsFirst, Stage, environment, start_in, with_world}
-use Rattle.session.specs.Course.{Course, course_after, course_begun, course_to_end, led_to, version_at}
-use Rattle.session.specs.DrillPlaying.{HasTakenFirst, LeavesDrill, drill_environment, drill_stage, told_of}
-use Rattle.session.specs.Remapping.{HasNoRoom, KeepsVersion, Mapped, mapped_by, mapped_in}
-use Rattle.session.specs.Stop.{stop_of_halt}
-use Rattle.session.specs.Taking.{IsFull, IsWithin, judgement, replies_there}
-use Rattle.session.specs.Delivering.{AppliesDue, AtEnd, AtRest, CutsOff, IsHeldUp, IsUntaken, Leads, StaysWithin, TakesDelivery, TakesInPart, turn}
-use Rattle.session.proofs.Along.{asks-push, matches-push}
-use Rattle.session.proofs.Deliveries.{end_begun, end_taken}
-use Rattle.session.proofs.Ends.{is_played, none_named_first}
-use Rattle.session.proofs.FromNothing.{ended_first, led_first, version_first}
-use Rattle.session.proofs.Progress.{nothing_taken}
-use Rattle.std.specs.FinMap.{len-empty}
 use Rattle.drill_replay.proofs.Drills.{rest_of}
+use Rattle.session.specs.declared.drill_playing.DrillRun.{DrillRun}
+use Rattle.session.specs.DrillPlaying.{HasTakenFirst, LeavesDrill, drill_environment, drill_stage, told_of}
+use Rattle.run_model.specs.{declared.stop.Stop.Stop, declared.stop.Stop.TheVariants.OutOfMemory as StopOutOfMemory}
+use Rattle.run_model.specs.{declared.report.Report.TheVariants.Answers, declared.stop.Halt.Halt}
+use Rattle.run_model.specs.declared.stop.Halt.TheVariants.{Unapplied as NotApplied, Unprinted}
+use Rattle.run_model.specs.Moment.{HasCountedAt, RoseBy, no_numbers, Beginning, IsFirst, Stage, environment, start_in, with_world}
+use Rattle.run_model.specs.Course.{Course, course_after, course_begun, course_to_end, led_to, version_at}
+use Rattle.run_model.specs.Remapping.{HasNoRoom, KeepsVersion, Mapped, mapped_by, mapped_in}
+use Rattle.run_model.specs.{Stop.stop_of_halt, Taking.IsFull, Taking.IsWithin, Taking.judgement, Taking.replies_there}
+use Rattle.run_model.specs.Delivering.{AppliesDue, AtEnd, AtRest, CutsOff, IsHeldUp, IsUntaken, Leads, StaysWithin, TakesDelivery, TakesInPart, turn}
+use Rattle.snapshot.specs.declared.counts.Counts.{Counts}
+use Rattle.term_pool.specs.declared.fault.PoolFault.TheVariants.{Full, OutOfMemory}
+use Rattle.run_model.proofs.{Along.asks-push, Along.matches-push, Deliveries.end_begun, Deliveries.end_taken}
+use Rattle.run_model.proofs.Ends.{is_played, none_named_first}
+use Rattle.run_model.proofs.{FromNothing.ended_first, FromNothing.led_first, FromNothing.version_first, Progress.nothing_taken}
 
 -- ---- where the world is
 
@@ -135,7 +123,7 @@ module _ (run : DrillRun) (ds after : List Delivery) (d : Delivery) (all : drill
 
   -- none was delivered before
   none_matched : (start : Beginning) → IsFirst start → 0 ≡ start.numbered.matches + matches ds
-  none_matched start first = omega (arith, none_before, ap (λ (n : Numbers). n.matches) first.numbered)
+  none_matched start first = omega (arith, none_before, ap (λ (n : Counts). n.matches) first.numbered)
 
   -- it is no question
   pub silent : question_of d ≡ None
@@ -182,7 +170,7 @@ module _ (run : DrillRun) (ds after : List Delivery) (d : Delivery) (all : drill
         -- nothing is answered
         still_none : AtRest (drill_environment run.size) (ds ++ d ∷ []) reported_now taken.start (drill_stage pages_now out_now world_now) → AtRest (drill_environment run.size) (ds ++ d ∷ []) 0 taken.start (drill_stage pages_now out_now world_now)
         still_none at_rest =
-            let none : reported_now ≡ 0 = omega (arith, at_rest.answered, ap (λ (n : Numbers). n.asks) taken.first.numbered, asks_none) in
+            let none : reported_now ≡ 0 = omega (arith, at_rest.answered, ap (λ (n : Counts). n.asks) taken.first.numbered, asks_none) in
             subst (λ n. AtRest (drill_environment run.size) (ds ++ d ∷ []) n taken.start (drill_stage pages_now out_now world_now)) none at_rest
 
     module _ (pages_now : Source) (out_now : Output) (world_now : WorldState) where

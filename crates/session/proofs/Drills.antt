@@ -7,9 +7,8 @@ use Rattle.text_output.specs.declared.write.Unwritten.{Unwritten}
 use Rattle.text_output.specs.declared.write.Unwritten.TheVariants.{WriteFault as NotWritten, OutOfMemory}
 use Rattle.text_output.specs.Printing.{Output, Prints, output}
 use Rattle.text_output.proofs.Parts.{cut_short_at_once}
-use Rattle.drill_replay.specs.Playing.{HasBegun}
-use Rattle.drill_replay.specs.Summary.{drilled, summary_lines, summary_of}
-use Rattle.session.specs.Moment.{HasWrittenOn}
+use Rattle.drill_replay.specs.{Playing.HasBegun, Summary.drilled, Summary.summary_lines, Summary.summary_of}
+use Rattle.run_model.specs.Moment.{HasWrittenOn}
 use Rattle.session.specs.Plans.{DrillStopped, HasDrilled, summary_text}
 
 -- texts one after the other

@@ -1,14 +1,10 @@
 -- What a replay, a drill and a follower leave, by the plan that the arguments are.
 use Rattle.std.proofs.Common.{◌≡◌, subst, ℕ, Some, IfSome}
-use Rattle.following.specs.Following.{FollowMoment}
-use Rattle.following.specs.Reading.{TakesLinesByNeed}
-use Rattle.arguments.specs.Options.{FollowChoices, follow_max_bytes_of}
-use Rattle.arguments.specs.declared.plan.Plan.{Plan}
+use Rattle.following.specs.{Following.FollowMoment, Reading.TakesLinesByNeed}
+use Rattle.arguments.specs.{Options.FollowChoices, Options.follow_max_bytes_of, declared.plan.Plan.Plan}
 use Rattle.arguments.specs.declared.plan.Plan.TheVariants.{Drill, Follow}
-use Rattle.session.specs.declared.status.Status.{Status}
-use Rattle.session.specs.declared.stop.Stop.{Stop}
+use Rattle.run_model.specs.{declared.status.Status.Status, declared.stop.Stop.Stop, Stop.stop_of}
 use Rattle.session.specs.Plans.{FollowEnding, FollowStopped}
-use Rattle.session.specs.Stop.{stop_of}
 
 -- what holds of the plan that was read holds of the plan that the arguments are
 pub for_plan : (P : Plan → Type 0) (read plan : Plan) → Some read ≡ Some plan → P read → P plan

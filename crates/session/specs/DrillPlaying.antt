@@ -5,14 +5,11 @@ use Rattle.delivery.specs.declared.Delivery.{Delivery}
 use Rattle.replay_model.specs.ReplayState.{nothing_delivered}
 use Rattle.world.specs.WorldState.{WorldState}
 use Rattle.text_output.specs.Printing.{Output}
-use Rattle.drill.specs.Drill.{contents_of}
-use Rattle.drill.specs.Source.{Source}
+use Rattle.drill.specs.{Drill.contents_of, Source.Source}
 use Rattle.drill_replay.specs.Playing.{Counted, IsByFirst}
 use Rattle.session.specs.declared.drill_playing.DrillRun.{DrillRun}
-use Rattle.session.specs.declared.report.Report.TheVariants.{Answers}
-use Rattle.session.specs.Moment.{Beginning, Environment, IsFirst, Stage}
-use Rattle.session.specs.Remapping.{mapped_in}
-use Rattle.session.specs.Delivering.{AtRest}
+use Rattle.run_model.specs.{declared.report.Report.TheVariants.Answers, Moment.Beginning, Moment.Environment, Moment.IsFirst, Moment.Stage}
+use Rattle.run_model.specs.{Remapping.mapped_in, Delivering.AtRest}
 
 -- what the pages of a drill tell, the same in every folder
 abbrev pub told_of : ℕ → Option Contents

@@ -2,29 +2,24 @@
 -- follower leave.
 use Rattle.std.specs.Prelude.{◌≡◌, ◌⊎◌, ℕ, false, List, None, Some, Option, IfSome, MatchOption}
 use Rattle.revisions.specs.Revisions.{Contents}
-use Rattle.graph_routes.specs.declared.routes.Route.{Route}
-use Rattle.graph_routes.specs.Routes.{AreRoutesIn}
-use Rattle.arguments.specs.Options.{SplitChoices, closes, max_terms_of, FollowChoices, follow_max_bytes_of}
-use Rattle.arguments.specs.Plan.{plan_of}
-use Rattle.arguments.specs.declared.plan.Plan.{Plan}
+use Rattle.graph_routes.specs.{declared.routes.Route.Route, Routes.AreRoutesIn}
+use Rattle.arguments.specs.Options.{SplitChoices, max_terms_of, FollowChoices, follow_max_bytes_of}
+use Rattle.arguments.specs.{Plan.plan_of, declared.plan.Plan.Plan}
 use Rattle.arguments.specs.declared.plan.Plan.TheVariants.{Replay, Drill, Patches, Follow, Split}
-use Rattle.session.specs.declared.report.Report.TheVariants.{Answers, Changes}
-use Rattle.session.specs.declared.status.Status.{Status}
-use Rattle.session.specs.Moment.{Run, run_of, Stage}
-use Rattle.session.specs.Stop.{MayLeavePart, stop_of, stop_of_follow}
+use Rattle.run_model.specs.declared.report.Report.TheVariants.{Answers, Changes}
+use Rattle.run_model.specs.{declared.status.Status.Status, Moment.Run, Moment.run_of, Moment.Stage}
+use Rattle.run_model.specs.Stop.{MayKeep, stop_of, stop_of_follow}
+use Rattle.run_model.specs.declared.status.Status.TheVariants.{Ok as Ended, BadWords, BadLine, ReadFault, WriteFault, TooLong, StoreFull, OutOfMemory, BadSnapshot}
+use Rattle.run_model.specs.declared.stop.Stop.{Stop}
 use Rattle.std.specs.List.{flat_map}
 use Rattle.wq_io.specs.Streams.{after_known}
 use Rattle.replay_model.specs.ReplayState.{ReplayState}
 use Rattle.text_output.specs.declared.write.Unwritten.{Unwritten}
 use Rattle.text_output.specs.declared.write.Unwritten.TheVariants.{WriteFault as NotWritten, OutOfMemory as UnwrittenOutOfMemory}
 use Rattle.text_output.specs.Printing.{IsCutShort, Output}
-use Rattle.drill_replay.specs.Playing.{HasBegun}
-use Rattle.drill_replay.specs.Summary.{drilled, summary_lines, summary_of}
-use Rattle.session.specs.declared.status.Status.TheVariants.{Ok as Ended, BadWords, BadLine, ReadFault, WriteFault, TooLong, StoreFull, OutOfMemory, BadSnapshot}
-use Rattle.following.specs.declared.stop.FollowStop.{FollowStop}
-use Rattle.following.specs.Following.{Ending, FollowMoment, StoppedFollowing}
+use Rattle.drill_replay.specs.{Playing.HasBegun, Summary.drilled, Summary.summary_lines, Summary.summary_of}
+use Rattle.following.specs.{declared.stop.FollowStop.FollowStop, Following.Ending, Following.FollowMoment, Following.StoppedFollowing}
 use Rattle.following.specs.Reading.{TakesLinesByNeed}
-use Rattle.session.specs.declared.stop.Stop.{Stop}
 
 -- the arguments ask for a split by a text that has no routes
 pub record HasNoRoutes (words : List (List ℕ)) : Type 0 where
@@ -59,12 +54,11 @@ limit_of_plan (Drill size) = 20000000
 limit_of_plan (Follow choices) = 20000000
 limit_of_plan (Split choices) = max_terms_of choices.replay
 
--- a run with this plan and status may have written a snapshot or a part of one: `--save` was given, and the run ended well, or stopped because
--- a write failed or memory was refused
+-- a run with this plan and status may have kept or begun a snapshot
 abbrev pub MaySave : Plan → Status → Type 0
-MaySave (Replay choices) status = (closes choices ≡ false) × IfSome (stop_of status) MayLeavePart
-MaySave (Patches choices) status = (closes choices ≡ false) × IfSome (stop_of status) MayLeavePart
-MaySave (Split choices) status = (closes choices.replay ≡ false) × IfSome (stop_of status) MayLeavePart
+MaySave (Replay choices) status = MayKeep choices (stop_of status)
+MaySave (Patches choices) status = MayKeep choices (stop_of status)
+MaySave (Split choices) status = MayKeep choices.replay (stop_of status)
 MaySave (Drill size) status = ⊥
 MaySave (Follow choices) status = ⊥
 

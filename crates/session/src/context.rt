@@ -3,18 +3,19 @@
 ghost use Rattle.std.specs.Prelude.{◌≡◌, ◌+◌, ◌-◌, ◌^◌, ◌<◌, List};
 ghost use Rattle.rdf_term.specs.declared.triple.Triple.{Triple as TheTriple};
 ghost use Rattle.replay_model.specs.{Transcript.for_bindings, Transcript.for_triples, Versions.meaning_by};
-ghost use Rattle.world.specs.{Changing.Tells, Meaning.meaning};
+ghost use Rattle.fetched_pages.specs.Meaning.{meaning};
+ghost use Rattle.world.specs.Changing.{Tells};
 ghost use Rattle.text_output.specs.Printing.{Prints, output};
 ghost use Rattle.patch_stream.specs.Stream.{step};
-ghost use Rattle.session.specs.{Course.answer_text, Moment.HasWrittenOn};
-ghost use Rattle.session.specs.Delivering.{AnswersQuestion, HasNumberLeft, TellsStepBy, telling_of};
+ghost use Rattle.run_model.specs.{Course.answer_text, Moment.HasWrittenOn};
+ghost use Rattle.run_model.specs.Delivering.{AnswersQuestion, HasNumberLeft, TellsStepBy, telling_of};
 
 use crate::replay::Replay;
-use crate::report::Report;
 use delivery::Delivery;
 use graph_query::Query;
 use patch_stream::print_step;
 use rdf_term::Pattern;
+use run_model::Report;
 use std::alloc::Global;
 use text_output::Unwritten;
 use transcript::{print_answer, print_match};

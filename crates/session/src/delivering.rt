@@ -4,18 +4,18 @@ ghost use Rattle.std.specs.Prelude.{◌≡◌, false, IfErr, IfOk, None};
 ghost use Rattle.drill_replay.specs.Playing.{answer_of};
 ghost use Rattle.replay_model.specs.{ReplayState.after_end, Transcript.question_of};
 ghost use Rattle.text_output.specs.Printing.{output};
-ghost use Rattle.session.specs.{declared.report.Report.TheVariants.Answers, Moment.HasGoneOn, Moment.HasWrittenOn};
-ghost use Rattle.session.specs.{Moment.stage, Moment.with_world, Moved.environment_in};
-ghost use Rattle.session.specs.{Moved.GoesOn, Remapping.KeepsVersion, Remapping.mapped_in, Delivering.HasNumberLeft};
-ghost use Rattle.session.specs.Delivering.{AppliesDue, CutsOff, IsHeldUp, StaysWithin, TakesDelivery, turn};
+ghost use Rattle.run_model.specs.{declared.report.Report.TheVariants.Answers, Moment.HasGoneOn, Moment.HasWrittenOn};
+ghost use Rattle.run_model.specs.{Moment.stage, Moment.with_world, Moved.environment_in};
+ghost use Rattle.run_model.specs.{Moved.GoesOn, Remapping.KeepsVersion, Remapping.mapped_in, Delivering.HasNumberLeft};
+ghost use Rattle.run_model.specs.Delivering.{AppliesDue, CutsOff, IsHeldUp, StaysWithin, TakesDelivery, turn};
 
 use crate::context::{Context, Incoming};
 use crate::remapping::take_mapping;
 use crate::replay::Replay;
-use crate::stop::{Halt, Stop};
 use delivery::Delivery;
 use reorder_buffer::Taken;
 use revisions::Revisions;
+use run_model::{Halt, Stop};
 use splitting::{follow_application, routes_of};
 use triple_store::StoreFault;
 use world::{Application, WorldFault};
@@ -111,8 +111,8 @@ pub fn take_end<R: Revisions, K: Sink>(
     apply_due(context, revisions, out, replay)
 }
 
-// Applies all due events, the least first, and tells each, where changes are reported, before the next is applied. Says how many answers or
-// records are written then.
+// Applies all due events, the least first, and tells each, where changes are reported, before the next is applied; stops at once where the
+// graphs of a split are lost. Says how many answers or records are written then.
 fn apply_due<R: Revisions, K: Sink>(
     context: &Context<'_>,
     revisions: &mut R,
@@ -146,11 +146,12 @@ fn apply_due<R: Revisions, K: Sink>(
                     routed,
                 },
             ) => {
-                follow_application(&mut replay.graphs, &applied, routed);
+                let followed = follow_application(&mut replay.graphs, &applied, routed);
                 match context.tell(reported, change, out) {
                     Ok(now) => reported = now,
                     Err(why) => return Err(Halt::Unprinted(why)),
                 }
+                followed?;
             }
             Err(WorldFault::Nothing) => return Ok(reported),
             Err(WorldFault::Full) => return Err(Halt::Unapplied(StoreFault::Full)),

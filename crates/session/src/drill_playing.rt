@@ -12,11 +12,10 @@ ghost use Rattle.term_pool.specs.declared.fault.PoolFault.TheVariants.{OutOfMemo
 use crate::context::{Context, Incoming};
 use crate::delivering::{deliver, take_end};
 use crate::replay::Replay;
-use crate::report::Report;
-use crate::stop::{Halt, Stop};
 use drill::{DrillRevisions, deliveries};
 use drill_replay::DrillCounts;
 use rdf_term::OutOfMemory;
+use run_model::{Halt, Report, Stop};
 use std::alloc::Global;
 use wq_io::Sink;
 

@@ -4,15 +4,15 @@ ghost use Rattle.std.specs.Prelude.{◌≡◌, ◌≤◌, None, IfErr, OnOk};
 ghost use Rattle.replay_model.specs.ReplayState.{nothing_delivered};
 ghost use Rattle.text_output.specs.Printing.{output};
 ghost use Rattle.drill_replay.specs.Playing.{IsByFirst};
-ghost use Rattle.session.specs.{Moment.HasWrittenOn, Plans.DrillStopped, Plans.HasDrilled, Plans.IsDrillEnd, Remapping.HoldsWithin};
+ghost use Rattle.run_model.specs.{Moment.HasWrittenOn, Remapping.HoldsWithin};
+ghost use Rattle.session.specs.Plans.{DrillStopped, HasDrilled, IsDrillEnd};
 ghost use Rattle.arguments.specs.Plan.{greatest_size};
 
 use crate::drill_playing::play;
 use crate::remapping::begin_by_first;
 use crate::replay::Replay;
-use crate::status::Status;
-use crate::stop::Stop;
 use drill_replay::{summarize, summary_lines};
+use run_model::{Status, Stop};
 use std::alloc::Global;
 use text_output::{Unwritten, print_lines};
 use world::World;

@@ -3,14 +3,14 @@
 ghost use Rattle.std.specs.Prelude.{◌≡◌, ◌≢◌};
 ghost use Rattle.replay_model.specs.ReplayState.{nothing_delivered};
 ghost use Rattle.following.specs.Following.{follow_moment};
-ghost use Rattle.session.specs.{Moment.HaveGoneOn, Plans.FollowEnding, Remapping.HoldsWithin};
+ghost use Rattle.run_model.specs.{Moment.HaveGoneOn, Remapping.HoldsWithin};
+ghost use Rattle.session.specs.Plans.{FollowEnding};
 
-use crate::ports::Ports;
-use crate::status::Status;
-use crate::stop::Stop;
 use arguments::FollowOptions;
+use checkpoint::Snapshots;
 use following::follow;
 use revisions::Revisions;
+use run_model::{Ports, Status, Stop};
 use std::alloc::Global;
 use std::hash::RandomState;
 use world::World;
@@ -20,7 +20,7 @@ use wq_io::{Sink, Source};
 const LIMIT: u32 = 20_000_000;
 
 // Follows the records of the input. Nothing is fetched, and the world stays empty.
-pub fn follow_records<S: Source, R: Revisions, K: Sink, F: Sink>(
+pub fn follow_records<S: Source, R: Revisions, K: Sink, F: Snapshots>(
     alloc: Global,
     keys: RandomState,
     options: &FollowOptions,
@@ -34,7 +34,7 @@ pub fn follow_records<S: Source, R: Revisions, K: Sink, F: Sink>(
     ensures others { ports.new ≡ record ports.old { events = ports.new.events; out = ports.new.out } }
     ensures empty { result.1 ≡ record world { limit = 20000000 } }
     ensures held { HoldsWithin 20000000 result.1 }
-    ensures further { HaveGoneOn S.Source R.Revisions K.Sink F.Sink ports.old ports.new }
+    ensures further { HaveGoneOn S.Source R.Revisions K.Sink F.Snapshots ports.old ports.new }
 {
     let mut world = world;
     world.set_room(LIMIT);

@@ -5,13 +5,13 @@ ghost use Rattle.replay_model.specs.ReplayState.{nothing_delivered};
 ghost use Rattle.drill_replay.specs.Playing.{IsByFirst};
 ghost use Rattle.text_output.specs.Printing.{output};
 ghost use Rattle.patch_stream.specs.Stream.{steps_anew};
-ghost use Rattle.session.specs.{declared.report.Report.TheVariants.Answers, Moment.HasWrittenOn, Remapping.HaveRoom, Remapping.needed_anew};
-ghost use Rattle.session.specs.{Moved.GoesOn, Remapping.mapped_by, Remapping.mapped_in, Delivering.TellsBy, Delivering.RemapsPages};
+ghost use Rattle.run_model.specs.{declared.report.Report.TheVariants.Answers, Moment.HasWrittenOn, Remapping.HaveRoom, Remapping.needed_anew};
+ghost use Rattle.run_model.specs.{Moved.GoesOn, Remapping.mapped_by, Remapping.mapped_in, Delivering.TellsBy, Delivering.RemapsPages};
 
 use crate::context::Context;
 use crate::replay::Replay;
-use crate::stop::Halt;
 use entity_model::MappingVersion;
+use run_model::Halt;
 use splitting::follow_remapping;
 use triple_store::StoreFault;
 use world::{Remapping, World, WorldFault};
@@ -29,7 +29,8 @@ pub fn begin_by_first(world: &mut World)
 }
 
 // Puts a version of the mapping in force, and maps all that is held by it, the page of the least entity first; tells each, where changes are
-// reported, before the next is mapped. Says how many answers or records are written then.
+// reported, before the next is mapped; stops at once where the graphs of a split are lost. Says how many answers or records are written
+// then.
 pub fn take_mapping<K: Sink>(
     context: &Context<'_>,
     version: MappingVersion,
@@ -60,12 +61,13 @@ pub fn take_mapping<K: Sink>(
                     },
                 ),
             ) => {
-                follow_remapping(&mut replay.graphs, entity, &triples);
+                let followed = follow_remapping(&mut replay.graphs, entity, &triples);
                 drop(triples);
                 match context.tell(reported, change, out) {
                     Ok(now) => reported = now,
                     Err(why) => return Err(Halt::Unprinted(why)),
                 }
+                followed?;
             }
             Ok(None) => unreachable!(),
             Err(WorldFault::Full) => return Err(Halt::Unapplied(StoreFault::Full)),

@@ -4,22 +4,22 @@ ghost use Rattle.std.specs.Prelude.{◌≡◌, false, None, IfOk, OnErr, OnOk};
 ghost use Rattle.checkpoint.specs.Saved.{AreWithin};
 ghost use Rattle.reorder_buffer.specs.Buffered.{answer_to};
 ghost use Rattle.replay_model.specs.ReplayState.{after_end, after_event, after_mark};
-ghost use Rattle.session.specs.{Moment.no_numbers, Moved.moved, Moved.with_state};
-ghost use Rattle.session.specs.Remapping.{HoldsWithin};
+ghost use Rattle.run_model.specs.{Moment.no_numbers, Moved.moved, Moved.with_state, Remapping.HoldsWithin};
 
-use checkpoint::Numbers;
 use entity_model::Event;
 use rdf_term::OutOfMemory;
 use reorder_buffer::Taken;
+use snapshot::Counts;
 use splitting::Graphs;
 use std::marker::Model;
 use world::World;
 
 // The counts before the first run.
-pub const NOTHING_REPORTED: Numbers = Numbers {
+pub const NOTHING_REPORTED: Counts = Counts {
     asks: 0,
     matches: 0,
     patches: 0,
+    lines: 0,
 };
 
 // The world, the graphs of a split, and the counts that earlier runs left. The graphs, if there are some, follow the world, and the counts
@@ -28,13 +28,13 @@ pub const NOTHING_REPORTED: Numbers = Numbers {
 pub struct Replay {
     pub world: World,
     pub graphs: Option<Graphs>,
-    pub earlier: Numbers,
+    pub earlier: Counts,
 }
 
 impl Model for Replay {
     ghost use Rattle.checkpoint.specs.Saved.{AreWithin};
     ghost use Rattle.splitting.specs.Graphs.{MayFollow, routes_of};
-    ghost use Rattle.session.specs.Moved.{Moved, moved_code};
+    ghost use Rattle.run_model.specs.Moved.{Moved, moved_code};
 
     ghost Value = { Moved };
 
@@ -58,7 +58,7 @@ impl Replay {
     }
 
     // The counts that earlier runs left.
-    pub fn earlier(&self) -> Numbers
+    pub fn earlier(&self) -> Counts
         ensures value { result ≡ self.now.earlier }
         ensures within { AreWithin result }
     {

@@ -3,27 +3,25 @@
 ghost use Rattle.std.specs.Prelude.{◌≡◌, ◌≢◌, ◌⊎◌, false, IfSome};
 ghost use Rattle.replay_model.specs.{ReplayState.nothing_delivered, Versions.meaning_by};
 ghost use Rattle.text_output.specs.Printing.{Prints, output};
-ghost use Rattle.session.specs.{Course.closing_held, Moment.HasWrittenOn, Moment.HaveGoneOn, Headline.ReplayEnding, Resuming.RunEnding};
-ghost use Rattle.session.specs.{Moment.moment, Moment.run_of, Moved.GoesOn, Moved.run_in, Remapping.HoldsWithin, Remapping.mapped_in};
-ghost use Rattle.session.specs.{Delivering.PrintsClosing, Moment.sections_of, Stop.MayLeavePart, Stop.stop_in, Stop.stop_of, Taking.IsStanding};
+ghost use Rattle.run_model.specs.{Course.closing_held, Moment.HasWrittenOn, Moment.HaveGoneOn, Headline.ReplayEnding, Resuming.RunEnding};
+ghost use Rattle.run_model.specs.{Moment.moment, Moment.run_of, Moved.GoesOn, Moved.run_in, Remapping.HoldsWithin, Remapping.mapped_in};
+ghost use Rattle.run_model.specs.{Delivering.PrintsClosing, Moment.sections_of, Stop.stop_in, Stop.stop_of, Taking.IsStanding};
+ghost use Rattle.run_model.specs.Stop.{MayKeep};
 ghost use Rattle.transcript.specs.Sections.{chosen};
 ghost use Rattle.arguments.specs.Options.{closes, max_terms_of};
-ghost use Rattle.world.specs.Meaning.{meaning};
+ghost use Rattle.fetched_pages.specs.Meaning.{meaning};
 
 use crate::context::Context;
 use crate::delivering::take_end;
-use crate::ports::Ports;
 use crate::replay::Replay;
-use crate::report::Report;
 use crate::resuming::{prepare, start};
-use crate::status::Status;
-use crate::stop::Stop;
-use crate::taking::take_lines;
+use crate::taking::{save_taken, take_lines};
 use crate::task::Task;
 use arguments::ReplayOptions;
-use checkpoint::save;
+use checkpoint::Snapshots;
 use graph_routes::Routes;
 use revisions::Revisions;
+use run_model::{Ports, Report, Status, Stop};
 use std::hash::RandomState;
 use text_output::Unwritten;
 use transcript::{Sections, print_closing};
@@ -32,7 +30,7 @@ use wq_io::{Sink, Source};
 
 // Replays, with a graph for each of the routes and one for the rest, if there are routes: from the snapshot on that the options name, if
 // they name one, and from the beginning otherwise. Gives the world back.
-pub fn run_replay<S: Source, R: Revisions, K: Sink, F: Sink>(
+pub fn run_replay<S: Source, R: Revisions, K: Sink, F: Snapshots>(
     keys: RandomState,
     task: &Task<'_>,
     routes: Option<Routes>,
@@ -41,12 +39,12 @@ pub fn run_replay<S: Source, R: Revisions, K: Sink, F: Sink>(
 ) -> (Status, World)
     requires { world.replay ≡ nothing_delivered }
     ensures ending { RunEnding (stop_of result.0) (run_of routes task.now.report (R.contents ports.old.revisions) task.now.options.now)
-        (moment S.Source R.Revisions K.Sink F.Sink ports.old world)
-        (moment S.Source R.Revisions K.Sink F.Sink ports.new result.1) }
+        (moment S.Source R.Revisions K.Sink F.Snapshots ports.old world)
+        (moment S.Source R.Revisions K.Sink F.Snapshots ports.new result.1) }
     ensures understood { result.0 ≢ Status.BadWords }
     ensures limit { (result.1.limit ≡ max_terms_of task.now.options.now) × HoldsWithin (max_terms_of task.now.options.now) result.1 }
-    ensures unsaved { ((closes task.now.options.now ≡ false) × IfSome (stop_of result.0) MayLeavePart) ⊎ (ports.new.snapshot ≡ ports.old.snapshot) }
-    ensures further { HaveGoneOn S.Source R.Revisions K.Sink F.Sink ports.old ports.new }
+    ensures unsaved { MayKeep task.now.options.now (stop_of result.0) ⊎ (ports.new.snapshot ≡ ports.old.snapshot) }
+    ensures further { HaveGoneOn S.Source R.Revisions K.Sink F.Snapshots ports.old ports.new }
 {
     let world = prepare(task.options, world);
     match start(keys, task, routes, &mut ports.resumed, world) {
@@ -72,7 +70,7 @@ fn status_of(played: Result<(), Stop>) -> Status
 
 // Takes the lines, and the end where it is that of the deliveries; prints; and saves the world where it is to be saved: then the end of the
 // input isn't that of the deliveries.
-fn play<S: Source, R: Revisions, K: Sink, F: Sink>(
+fn play<S: Source, R: Revisions, K: Sink, F: Snapshots>(
     task: &Task<'_>,
     ports: &mut Ports<S, R, K, F>,
     replay: &mut Replay,
@@ -80,11 +78,11 @@ fn play<S: Source, R: Revisions, K: Sink, F: Sink>(
     requires stands { IsStanding replay.old.world.replay (mapped_in replay.old.world) }
     requires limit { replay.old.world.limit ≡ max_terms_of task.now.options.now }
     ensures ending { ReplayEnding (stop_in result) (run_in replay.old task.now.report (R.contents ports.old.revisions) task.now.options.now)
-        (moment S.Source R.Revisions K.Sink F.Sink ports.old replay.old.world)
-        (moment S.Source R.Revisions K.Sink F.Sink ports.new replay.new.world) }
+        (moment S.Source R.Revisions K.Sink F.Snapshots ports.old replay.old.world)
+        (moment S.Source R.Revisions K.Sink F.Snapshots ports.new replay.new.world) }
     ensures limit { replay.new.world.limit ≡ replay.old.world.limit }
-    ensures unsaved { ((closes task.now.options.now ≡ false) × IfSome (stop_in result) MayLeavePart) ⊎ (ports.new.snapshot ≡ ports.old.snapshot) }
-    ensures further { HaveGoneOn S.Source R.Revisions K.Sink F.Sink ports.old ports.new }
+    ensures unsaved { MayKeep task.now.options.now (stop_in result) ⊎ (ports.new.snapshot ≡ ports.old.snapshot) }
+    ensures further { HaveGoneOn S.Source R.Revisions K.Sink F.Snapshots ports.old ports.new }
 {
     let taken = take_lines(task, ports, replay)?;
     if task.options.closes() {
@@ -99,10 +97,7 @@ fn play<S: Source, R: Revisions, K: Sink, F: Sink>(
         return Ok(close(task, replay, &mut ports.out)?);
     }
     close(task, replay, &mut ports.out)?;
-    let counts = task
-        .report
-        .numbers(replay.earlier(), taken.reported, taken.matched);
-    Ok(save(task.alloc, replay.world(), counts, &mut ports.snapshot)?)
+    Ok(save_taken(task, &taken, replay, &mut ports.snapshot)?)
 }
 
 // Prints the sections that are asked for, or the triples of each graph, where there are graphs; nothing where changes are reported.

@@ -7,20 +7,18 @@ ghost use Rattle.replay_model.specs.ReplayState.{nothing_delivered, nothing_deli
 ghost use Rattle.splitting.specs.{Filling.IsReadyFor, Graphs.GraphsState, Graphs.MayFollow, Graphs.routes_of};
 ghost use Rattle.arguments.specs.Options.{max_terms_of};
 ghost use Rattle.wq_io.specs.Streams.{IsAtEnd};
-ghost use Rattle.session.specs.{Moment.HasReadOn, Moment.world_at_start, Moment.no_numbers, Moved.moved};
-ghost use Rattle.session.specs.Remapping.{HoldsWithin, mapped_in};
-ghost use Rattle.session.specs.Resuming.{AllowsHorizon, IsRefusedFor};
-ghost use Rattle.session.specs.Delivering.{IsLoaded, IsUnloaded};
-ghost use Rattle.session.specs.Taking.{IsStanding};
+ghost use Rattle.run_model.specs.{Moment.HasReadOn, Moment.world_at_start, Moment.no_numbers, Moved.moved};
+ghost use Rattle.run_model.specs.{Remapping.HoldsWithin, Remapping.mapped_in, Resuming.AllowsHorizon, Resuming.IsRefusedFor};
+ghost use Rattle.run_model.specs.{Delivering.IsLoaded, Delivering.IsUnloaded, Taking.IsStanding};
 
 use crate::remapping::begin_by_first;
 use crate::replay::{NOTHING_REPORTED, Replay};
-use crate::stop::Stop;
 use crate::task::Task;
 use arguments::ReplayOptions;
 use checkpoint::{LoadFault, Loaded, load};
 use graph_routes::Routes;
 use rdf_term::OutOfMemory;
+use run_model::Stop;
 use splitting::Graphs;
 use std::hash::RandomState;
 use world::World;
@@ -156,11 +154,11 @@ fn load_start<S: Source>(
     match load(task.alloc, keys, task.options.max_terms(), resumed) {
         Ok(loaded) => match graphs_of(keys, task, routes, &loaded.world) {
             Ok(graphs) => {
-                let Loaded { world, numbers } = loaded;
+                let Loaded { world, counts } = loaded;
                 Ok(Replay {
                     world,
                     graphs,
-                    earlier: numbers,
+                    earlier: counts,
                 })
             }
             Err(fault) => {

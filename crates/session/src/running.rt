@@ -3,25 +3,22 @@
 ghost use Rattle.std.specs.Prelude.{◌≡◌, ◌⊎◌, ℕ, None, Some, map, string_bytes};
 ghost use Rattle.replay_model.specs.ReplayState.{nothing_delivered, nothing_delivered_within};
 ghost use Rattle.drill_replay.specs.Playing.{IsByFirst};
-ghost use Rattle.session.specs.{Moment.HaveGoneOn, Plans.DrillEnding, Plans.FollowEnding, Resuming.RunEnding};
-ghost use Rattle.session.specs.{Moment.Run, Moment.moment, Moment.stage, Remapping.HoldsWithin};
-ghost use Rattle.session.specs.Plans.{IsNotUnderstood, IsRunOf, MaySave, limit_of_plan};
-ghost use Rattle.session.specs.Stop.{stop_of};
+ghost use Rattle.run_model.specs.{Moment.HaveGoneOn, Resuming.RunEnding, Moment.Run, Moment.moment, Moment.stage, Remapping.HoldsWithin};
+ghost use Rattle.run_model.specs.Stop.{stop_of};
+ghost use Rattle.session.specs.Plans.{DrillEnding, FollowEnding, IsNotUnderstood, IsRunOf, MaySave, limit_of_plan};
 ghost use Rattle.following.specs.Following.{follow_moment};
-ghost use Rattle.arguments.specs.{Options.FollowChoices, Plan.plan_of};
-ghost use Rattle.arguments.specs.declared.plan.Plan.{Plan as ThePlan};
+ghost use Rattle.arguments.specs.{Options.FollowChoices, Plan.plan_of, declared.plan.Plan.Plan as ThePlan};
 ghost use Rattle.arguments.specs.declared.plan.Plan.TheVariants.{Drill, Follow};
 
 use crate::drilling::drill;
-use crate::ports::Ports;
 use crate::records::follow_records;
 use crate::replaying::run_replay;
-use crate::report::Report;
 use crate::split::split;
-use crate::status::Status;
 use crate::task::Task;
 use arguments::{Plan, read_plan};
+use checkpoint::Snapshots;
 use revisions::Revisions;
+use run_model::{Ports, Report, Status};
 use std::alloc::Global;
 use std::hash::RandomState;
 use world::World;
@@ -36,8 +33,9 @@ use wq_io::{Sink, Source};
 ///
 /// With `--resume` the replay goes on from the world of the snapshot, and the numbers of answers and records go on from its counts.
 ///
-/// With `--save` the end of the input isn't that of the deliveries: what waits goes on waiting, the sections show the world as it is then,
-/// and its snapshot is written last.
+/// With `--save` the end of the input isn't that of the deliveries: waiting events stay queued, the sections show the world as it is then,
+/// and its snapshot is kept last. With `--every` a snapshot is kept on the way too, behind every so many-th watermark, once all that it makes
+/// due is applied and reported, before the next line is read.
 ///
 /// `split` replays the same lines into several graphs: it answers each ask for each graph, and at the end prints the triples of each. It
 /// passes over matches.
@@ -47,7 +45,7 @@ use wq_io::{Sink, Source};
 /// `words` are the arguments; `keys` key the hashes of terms; `world` has taken nothing yet and has no horizon, and is given back as the run
 /// leaves it. A replay or a drill begins with the first version of the mapping, whichever is in force in `world`, or with the world of a
 /// snapshot. A follower leaves the version as it is.
-pub fn run<S: Source, R: Revisions, K: Sink, F: Sink>(
+pub fn run<S: Source, R: Revisions, K: Sink, F: Snapshots>(
     alloc: Global,
     keys: RandomState,
     words: &[String],
@@ -71,8 +69,8 @@ pub fn run<S: Source, R: Revisions, K: Sink, F: Sink>(
     // they are routed to now.
     ensures replay { (plan : ThePlan) → plan_of (map (λ w. string_bytes w) words.now) ≡ Some plan → (run : Run) → IsRunOf plan (R.contents ports.old.revisions) run →
         RunEnding (stop_of result.0) run
-        (moment S.Source R.Revisions K.Sink F.Sink ports.old world)
-        (moment S.Source R.Revisions K.Sink F.Sink ports.new result.1) }
+        (moment S.Source R.Revisions K.Sink F.Snapshots ports.old world)
+        (moment S.Source R.Revisions K.Sink F.Snapshots ports.new result.1) }
 
     // A drill ends with Ok, or stops while it prints, or with OutOfMemory. All that it leaves is mapped by the first version, and it reads
     // nothing.
@@ -94,13 +92,13 @@ pub fn run<S: Source, R: Revisions, K: Sink, F: Sink>(
     ensures limit { (plan : ThePlan) → plan_of (map (λ w. string_bytes w) words.now) ≡ Some plan →
         (result.0 ≡ Status.BadWords) ⊎ ((result.1.limit ≡ limit_of_plan plan) × HoldsWithin (limit_of_plan plan) result.1) }
 
-    // Nothing is written into the snapshot without `--save`, nor by a run that stops for another cause than a failed write or refused memory.
-    // What a replay writes into it comes last (`snapshot` of `ReplayEnding`).
+    // No snapshot is kept or begun without `--save`, nor, without `--every`, by a run that stops for another cause than a failed write or
+    // refused memory. What a replay keeps without `--every` comes last (`snapshot` of `ReplayEnding`).
     ensures unsaved { (plan : ThePlan) → plan_of (map (λ w. string_bytes w) words.now) ≡ Some plan →
         MaySave plan result.0 ⊎ (ports.new.snapshot ≡ ports.old.snapshot) }
 
     // The contents of the revisions stay the same, and failure counters never decrease.
-    ensures further { HaveGoneOn S.Source R.Revisions K.Sink F.Sink ports.old ports.new }
+    ensures further { HaveGoneOn S.Source R.Revisions K.Sink F.Snapshots ports.old ports.new }
 {
     match read_plan(words) {
         None => (Status::BadWords, world),

@@ -1,30 +1,29 @@
 // A split: a replay into several graphs.
 
-ghost use Rattle.std.specs.Prelude.{◌≡◌, ◌⊎◌, false, List, Some, IfSome};
+ghost use Rattle.std.specs.Prelude.{◌≡◌, ◌⊎◌, List, Some};
 ghost use Rattle.replay_model.specs.ReplayState.{nothing_delivered, nothing_delivered_within};
 ghost use Rattle.graph_routes.specs.{declared.routes.Route.Route, Routes.AreRoutesIn};
-ghost use Rattle.session.specs.{declared.report.Report.TheVariants.Answers, Moment.HaveGoneOn, Resuming.RunEnding};
-ghost use Rattle.session.specs.{Moment.moment, Moment.run_of, Remapping.HoldsWithin};
-ghost use Rattle.session.specs.Stop.{MayLeavePart, stop_of};
-ghost use Rattle.arguments.specs.Options.{closes, max_terms_of};
+ghost use Rattle.run_model.specs.{declared.report.Report.TheVariants.Answers, Moment.HaveGoneOn, Resuming.RunEnding};
+ghost use Rattle.run_model.specs.{Moment.moment, Moment.run_of, Remapping.HoldsWithin, Stop.stop_of};
+ghost use Rattle.run_model.specs.Stop.{MayKeep};
+ghost use Rattle.arguments.specs.Options.{max_terms_of};
 
-use crate::ports::Ports;
 use crate::replaying::run_replay;
-use crate::report::Report;
 use crate::resuming::prepare;
-use crate::status::Status;
 use crate::task::Task;
 use arguments::SplitOptions;
+use checkpoint::Snapshots;
 use graph_routes::Routes;
 use rdf_term::OutOfMemory;
 use revisions::Revisions;
+use run_model::{Ports, Report, Status};
 use std::alloc::Global;
 use std::hash::RandomState;
 use world::World;
 use wq_io::{Sink, Source};
 
 // Reads the routes that are asked for, and replays into their graphs. Where their text isn't understood, nothing is read or written.
-pub fn split<S: Source, R: Revisions, K: Sink, F: Sink>(
+pub fn split<S: Source, R: Revisions, K: Sink, F: Snapshots>(
     alloc: Global,
     keys: RandomState,
     options: &SplitOptions<'_>,
@@ -34,14 +33,14 @@ pub fn split<S: Source, R: Revisions, K: Sink, F: Sink>(
     requires { world.replay ≡ nothing_delivered }
     ensures bad_words { result.0 ≡ Status.BadWords → ((routes : List Route) → AreRoutesIn options.now.route routes → ⊥) × (ports.new ≡ ports.old) × (result.1 ≡ world) }
     ensures ending { (routes : List Route) → AreRoutesIn options.now.route routes → RunEnding (stop_of result.0) (run_of (Some routes) Answers (R.contents ports.old.revisions) options.now.replay)
-        (moment S.Source R.Revisions K.Sink F.Sink ports.old world)
-        (moment S.Source R.Revisions K.Sink F.Sink ports.new result.1) }
+        (moment S.Source R.Revisions K.Sink F.Snapshots ports.old world)
+        (moment S.Source R.Revisions K.Sink F.Snapshots ports.new result.1) }
     ensures none { ((routes : List Route) → AreRoutesIn options.now.route routes → ⊥) → (result.0 ≡ Status.BadWords) ⊎ (result.0 ≡ Status.OutOfMemory) }
     ensures unread { ((routes : List Route) → AreRoutesIn options.now.route routes → ⊥) → ports.new ≡ ports.old }
     ensures unplayed { ((routes : List Route) → AreRoutesIn options.now.route routes → ⊥) → result.1.replay ≡ nothing_delivered_within result.1.replay.buffer.horizon }
     ensures limit { (result.0 ≡ Status.BadWords) ⊎ ((result.1.limit ≡ max_terms_of options.now.replay) × HoldsWithin (max_terms_of options.now.replay) result.1) }
-    ensures unsaved { ((closes options.now.replay ≡ false) × IfSome (stop_of result.0) MayLeavePart) ⊎ (ports.new.snapshot ≡ ports.old.snapshot) }
-    ensures further { HaveGoneOn S.Source R.Revisions K.Sink F.Sink ports.old ports.new }
+    ensures unsaved { MayKeep options.now.replay (stop_of result.0) ⊎ (ports.new.snapshot ≡ ports.old.snapshot) }
+    ensures further { HaveGoneOn S.Source R.Revisions K.Sink F.Snapshots ports.old ports.new }
 {
     let asked = options.replay();
     let task = Task {

@@ -1,7 +1,7 @@
 // What is asked of a replay.
 
-use crate::report::Report;
 use arguments::ReplayOptions;
+use run_model::Report;
 use std::alloc::Global;
 
 // What is asked of a replay: where memory comes from, the options, and what is reported of the deliveries.

@@ -1,43 +1,30 @@
 -- Graphs follow each step of a world.
-use Rattle.std.proofs.Common.{◌≡◌, ◌≢◌, refl, sym, ◌∙◌, ap, subst, ℕ, ◌≤◌, Bool, true, false, not, cond, List, length, Option, None, Some, IfSome, Result, Ok, Err, OnOk, is_err, true≢false, option_map, ⊎_elim, unwrap_or, arith}
+use Rattle.std.proofs.Common.{◌≡◌, ◌≢◌, refl, sym, ◌∙◌, ap, subst, ℕ, ◌≤◌, Bool, true, false, not, cond, List, length, Option, None, Some, IfSome, Result, Ok, Err, option_map, ⊎_elim, unwrap_or, arith}
 use Rattle.std.specs.FinMap as map
-use Rattle.std.specs.Cmp.{eq_by_cmp_equiv}
-use Rattle.std.specs.Ordering.{eq_by_cmp}
+use Rattle.std.specs.{Cmp.eq_by_cmp_equiv, Ordering.eq_by_cmp}
 use Rattle.std.proofs.lemmas.List.Sums.{prefix_len-le-length}
 use Rattle.rdf_term.specs.declared.triple.Triple.{Triple}
 use Rattle.entity_json.specs.Document.{document_of}
 use Rattle.entity_model.specs.declared.document.Document.{Document}
 use Rattle.entity_model.specs.declared.document.Document.TheVariants.{Entity as AnEntity, Redirect, Lexeme as ALexeme}
-use Rattle.entity_model.specs.declared.id.EntityId.{EntityId}
-use Rattle.entity_model.specs.declared.mapping.MappingVersion.{MappingVersion}
-use Rattle.entity_model.specs.declared.mapping.MappingVersion.TheVariants.{One}
-use Rattle.entity_model.specs.EntityId.{entity_cmp, entity_cmp_total}
-use Rattle.entity_state.specs.declared.record.Held.{Held}
-use Rattle.entity_state.specs.declared.record.Record.{Record}
-use Rattle.entity_state.specs.Record.{blank, held_revision, wants}
+use Rattle.entity_model.specs.{declared.id.EntityId.EntityId, declared.mapping.MappingVersion.MappingVersion}
+use Rattle.entity_model.specs.{declared.mapping.MappingVersion.TheVariants.One, EntityId.entity_cmp, EntityId.entity_cmp_total}
+use Rattle.entity_state.specs.{declared.record.Held.Held, declared.record.Record.Record, Record.blank, Record.held_revision, Record.wants}
 use Rattle.entity_state.specs.State.{is_deleted, state_after}
 use Rattle.revisions.specs.Revisions.{Contents}
 use Rattle.side_output.specs.declared.entry.Cause.{Cause}
 use Rattle.replay_model.specs.Play.{held_after_fetch, record_after, records_after}
-use Rattle.replay_model.specs.Records.{Bytes, Records, record_of}
-use Rattle.replay_model.specs.ReplayState.{ReplayState}
+use Rattle.replay_model.specs.{Records.Bytes, Records.Records, Records.record_of, ReplayState.ReplayState}
 use Rattle.replay_model.specs.Versions.{meaning_by, version_at, with_version}
-use Rattle.graph_routes.specs.declared.routes.Route.{Route}
-use Rattle.subgraph.specs.Entries.{Entries, Entry}
-use Rattle.subgraph.specs.Laws.{IsSplitOf, entry_held}
-use Rattle.graph_routes.specs.Routing.{classes_said, leads}
-use Rattle.subgraph.specs.Split.{entry, graph_of}
-use Rattle.world.specs.declared.applied.Applied.{Applied}
-use Rattle.world.specs.declared.applied.Outcome.{Outcome}
+use Rattle.graph_routes.specs.{declared.routes.Route.Route, Routing.classes_said, Routing.leads}
+use Rattle.subgraph.specs.{Entries.Entries, Entries.Entry, Laws.IsSplitOf, Laws.entry_held, Split.entry, Split.graph_of}
+use Rattle.world.specs.{declared.applied.Applied.Applied, declared.applied.Outcome.Outcome}
 use Rattle.world.specs.declared.applied.Outcome.TheVariants.{Same, Stored, Dropped, Sided}
-use Rattle.world.specs.declared.applied.RoutedPage.{RoutedPage}
-use Rattle.world.specs.Applying.{Applies, outcome_of_reply}
-use Rattle.world.specs.Meaning.{meaning}
-use Rattle.world.specs.Routed.{AreTriplesOf, GivesPage, route_if, route_of_page}
+use Rattle.world.specs.{declared.applied.RoutedPage.RoutedPage, Applying.Applies, Applying.outcome_of_reply}
+use Rattle.world.specs.Routed.{AreTriplesOf, GivesPage}
 use Rattle.world.specs.WorldState.{AreHolders, WorldState, by_two_after, next_stale, remapped, with_version_of}
-use Rattle.world.proofs.ByVersion.{version_other, version_own}
-use Rattle.world.proofs.Giving.{recorded}
-use Rattle.world.proofs.Pieced.{id_tells}
+use Rattle.fetched_pages.specs.{Meaning.meaning, Routing.route_if, Routing.route_of_page}
+use Rattle.world.proofs.{ByVersion.version_other, ByVersion.version_own, Giving.recorded, Pieced.id_tells}
 use Rattle.splitting.specs.Graphs.{AreEntriesAfter, AreEntriesAnew, AreEntriesOf, IsSound, routing_by}
 
 -- ---- routes
@@ -235,11 +222,6 @@ module _ (routes : List Route) (entries entries_now : Entries) (before : WorldSt
       anew (held_in before x) refl are (subst (λ (o : Option Entry). AreEntriesAnew (option_map (λ (e : Entry). e.graph) o) x triples entries entries_now) (follows.entry_is x) is) follows
 
 -- ---- graphs
-
--- what holds of a step that didn't fail
-pub ok_of : {P : Type 0} {E : Type 0} (r : Result (Unit {0}) E) → false ≡ is_err r → OnOk r P → P
-ok_of (Ok done) is p = p
-ok_of (Err e) is p = absurd (true≢false (sym is))
 
 -- graphs that follow a world follow it after an application
 pub graphs_applied : (routes : List Route) (limit : ℕ) (entries entries_now : Entries) (applied : Applied) (page : Option RoutedPage) → AreEntriesAfter applied.outcome applied.event.entity page entries entries_now

@@ -1,17 +1,13 @@
 -- Graphs without entities follow a world to which nothing was delivered.
 use Rattle.std.proofs.Common.{◌≡◌, true≢false, ℕ, List, [], Option, None, Some, IfSome, sym, ◌∙◌, ap, subst}
 use Rattle.std.specs.FinMap as map
-use Rattle.entity_model.specs.declared.mapping.MappingVersion.{MappingVersion}
+use Rattle.entity_model.specs.{declared.mapping.MappingVersion.MappingVersion, declared.id.EntityId.EntityId}
 use Rattle.entity_state.specs.declared.record.Record.{Record}
-use Rattle.entity_model.specs.declared.id.EntityId.{EntityId}
-use Rattle.replay_model.specs.Records.{Bytes, Records}
-use Rattle.replay_model.specs.ReplayState.{nothing_delivered_within}
-use Rattle.replay_model.specs.Versions.{meaning_by}
+use Rattle.replay_model.specs.{Records.Bytes, Records.Records, ReplayState.nothing_delivered_within, Versions.meaning_by}
 use Rattle.replay_model.proofs.RecordOf.{record_of-empty}
-use Rattle.subgraph.specs.Entries.{Entries}
+use Rattle.subgraph.specs.{Entries.Entries, Laws.IsSplitOf, Laws.entry_held}
 use Rattle.graph_routes.specs.declared.routes.Route.{Route}
-use Rattle.subgraph.specs.Laws.{IsSplitOf, entry_held}
-use Rattle.world.specs.Meaning.{meaning}
+use Rattle.fetched_pages.specs.Meaning.{meaning}
 use Rattle.world.specs.WorldState.{AreHolders, WorldState}
 use Rattle.splitting.specs.Graphs.{AreEntriesOf, Follow, GraphsState, MayFollow, routing_by}
 

@@ -1,7 +1,6 @@
 -- The texts of graphs, one after the other.
 use Rattle.std.proofs.Common.{◌≡◌, refl, sym, ◌∙◌, ap, ℕ, zero, suc, ◌+◌, ◌≤◌, ◌-◌, List, [], ◌++◌, Ok, Err, append_assoc, append-nil, add-one, arith}
-use Rattle.text_output.specs.declared.write.Unwritten.{Unwritten}
-use Rattle.text_output.specs.Printing.{Output, Prints}
+use Rattle.text_output.specs.{declared.write.Unwritten.Unwritten, Printing.Output, Printing.Prints}
 use Rattle.text_output.specs.declared.write.Unwritten.TheVariants.{OutOfMemory}
 use Rattle.text_output.proofs.Parts.{cut_short_at_once, prints_both, prints_first}
 use Rattle.splitting.specs.Sections.{texts_below}

@@ -1,39 +1,27 @@
 -- Graphs that are filled with what a world holds, an entity after the other.
 use Rattle.std.proofs.Common.{◌≡◌, refl, sym, ◌∙◌, ap, ap₂, subst, ℕ, ◌≤◌, ◌==◌, Bool, true, false, cond, ◌||◌, List, [], ◌∷◌, ◌++◌, Option, None, Some, Result, Ok, Err, OnOk, is_some, unwrap_or, true≢false, ⊎_elim, arith}
 use Rattle.std.specs.FinMap as map
-use Rattle.std.specs.Cmp.{eq_by_cmp_equiv}
-use Rattle.std.specs.List.{AllByRecursion}
-use Rattle.std.specs.Ordering.{eq_by_cmp}
+use Rattle.std.specs.{Cmp.eq_by_cmp_equiv, List.AllByRecursion, Ordering.eq_by_cmp}
 use Rattle.sorted_sets.specs.Rising.{has, sorted}
 use Rattle.sorted_sets.proofs.Rising.{has-append, has-sorted}
-use Rattle.rdf_term.specs.declared.triple.Triple.{Triple}
-use Rattle.rdf_term.specs.Fit.{HasFitAndShortTerms}
-use Rattle.rdf_term.specs.Order.{triple_cmp, triple_cmp-total}
+use Rattle.rdf_term.specs.{declared.triple.Triple.Triple, Fit.HasFitAndShortTerms, Order.triple_cmp, Order.triple_cmp-total}
 use Rattle.entity_json.specs.Document.{document_of}
-use Rattle.entity_model.specs.declared.document.Document.{Document}
-use Rattle.entity_model.specs.declared.id.EntityId.{EntityId}
+use Rattle.entity_model.specs.{declared.document.Document.Document, declared.id.EntityId.EntityId}
 use Rattle.entity_model.specs.declared.mapping.MappingVersion.{MappingVersion}
 use Rattle.entity_model.specs.declared.mapping.MappingVersion.TheVariants.{One, Two}
 use Rattle.entity_model.specs.EntityId.{entity_cmp, entity_cmp_total}
-use Rattle.entity_state.specs.declared.record.Held.{Held}
-use Rattle.entity_state.specs.declared.record.Record.{Record}
-use Rattle.entity_state.specs.Record.{blank}
+use Rattle.entity_state.specs.{declared.record.Held.Held, declared.record.Record.Record, Record.blank}
 use Rattle.slot_keys.proofs.Lists.{one_of, or_left}
-use Rattle.replay_model.specs.Records.{Bytes, Records}
-use Rattle.replay_model.specs.Union.{Meaning, triples_held, union}
+use Rattle.replay_model.specs.{Records.Bytes, Records.Records, Union.Meaning, Union.triples_held, Union.union}
 use Rattle.replay_model.specs.Versions.{all_by, meaning_by, version_at}
 use Rattle.replay_model.proofs.Versions.{has-holders, holders-rise, version-all}
 use Rattle.graph_routes.specs.declared.routes.Route.{Route}
-use Rattle.subgraph.specs.Entries.{Entries, Entry, graph_triples, terms_with, triples_in}
-use Rattle.subgraph.specs.Laws.{entry_held}
+use Rattle.subgraph.specs.{Entries.Entries, Entries.Entry, Entries.graph_triples, Entries.terms_with, Entries.triples_in, Laws.entry_held}
 use Rattle.subgraph.specs.Split.{entry}
-use Rattle.subgraph.proofs.Owning.{gathered_from, gathered_if}
-use Rattle.subgraph.proofs.Routed.{fewer_terms}
-use Rattle.world.specs.declared.applied.RoutedPage.{RoutedPage}
-use Rattle.world.specs.Meaning.{document_triples, meaning, triples_if}
-use Rattle.world.specs.Roomed.{HasRoom}
-use Rattle.world.specs.Routed.{IsRouted, route_if, route_of_page}
+use Rattle.subgraph.proofs.{Owning.gathered_from, Owning.gathered_if, Routed.fewer_terms}
+use Rattle.world.specs.{declared.applied.RoutedPage.RoutedPage, Roomed.HasRoom, Routed.IsRouted}
 use Rattle.world.specs.WorldState.{AreHolders, WorldState}
+use Rattle.fetched_pages.specs.{Meaning.document_triples, Meaning.meaning, Meaning.triples_if, Routing.route_if, Routing.route_of_page}
 use Rattle.world.proofs.Pieced.{id_tells}
 use Rattle.splitting.specs.Filling.{AreAmong, HaveEntries, IsReadyFor, entry_in, with_entry}
 use Rattle.splitting.specs.Graphs.{AreEntriesOf, routing_by}

@@ -1,17 +1,12 @@
 -- What is printed of graphs that follow a world is of what is routed to them.
 use Rattle.std.proofs.Common.{◌≡◌, ap, subst, ℕ, suc, List, Result, length}
-use Rattle.rdf_term.specs.declared.pattern.Pattern.{Pattern}
-use Rattle.rdf_term.specs.declared.triple.Triple.{Triple}
-use Rattle.rdf_term.specs.Pattern.{rows}
+use Rattle.rdf_term.specs.{declared.pattern.Pattern.Pattern, declared.triple.Triple.Triple, Pattern.rows}
 use Rattle.replay_model.specs.Versions.{meaning_by}
-use Rattle.graph_routes.specs.declared.routes.Route.{Route}
-use Rattle.subgraph.specs.Entries.{Entries, graph_triples}
-use Rattle.subgraph.specs.Laws.{routed_union}
-use Rattle.graph_routes.specs.Routes.{graph_name}
+use Rattle.graph_routes.specs.{declared.routes.Route.Route, Routes.graph_name}
+use Rattle.subgraph.specs.{Entries.Entries, Entries.graph_triples, Laws.routed_union}
 use Rattle.subgraph.proofs.Routed.{follow_the_records}
-use Rattle.text_output.specs.declared.write.Unwritten.{Unwritten}
-use Rattle.text_output.specs.Printing.{Output, Prints}
-use Rattle.world.specs.Meaning.{meaning}
+use Rattle.text_output.specs.{declared.write.Unwritten.Unwritten, Printing.Output, Printing.Prints}
+use Rattle.fetched_pages.specs.Meaning.{meaning}
 use Rattle.world.specs.WorldState.{WorldState}
 use Rattle.splitting.specs.Graphs.{AreEntriesOf, routing_by}
 use Rattle.splitting.specs.Sections.{graph_answer, graph_answers, graph_section, graph_sections, texts_below}

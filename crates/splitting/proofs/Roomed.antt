@@ -2,25 +2,18 @@
 use Rattle.std.proofs.Common.{◌≡◌, ℕ, ◌≤◌, ◌||◌, List, ◌++◌, Option, None, Some, IfSome, refl, sym, ◌∙◌, ap, arith}
 use Rattle.sorted_sets.specs.Rising.{has, sorted}
 use Rattle.sorted_sets.proofs.Rising.{has-append, has-sorted}
-use Rattle.rdf_term.specs.declared.triple.Triple.{Triple}
-use Rattle.rdf_term.specs.Order.{triple_cmp, triple_cmp-total}
-use Rattle.entity_model.specs.declared.id.EntityId.{EntityId}
-use Rattle.entity_model.specs.declared.mapping.MappingVersion.{MappingVersion}
+use Rattle.rdf_term.specs.{declared.triple.Triple.Triple, Order.triple_cmp, Order.triple_cmp-total}
+use Rattle.entity_model.specs.{declared.id.EntityId.EntityId, declared.mapping.MappingVersion.MappingVersion}
 use Rattle.entity_state.specs.declared.record.Held.{Held}
-use Rattle.replay_model.specs.Records.{Bytes}
-use Rattle.replay_model.specs.Union.{triples_held, union}
-use Rattle.replay_model.specs.Versions.{meaning_by}
+use Rattle.replay_model.specs.{Records.Bytes, Union.triples_held, Union.union, Versions.meaning_by}
 use Rattle.graph_routes.specs.declared.routes.Route.{Route}
-use Rattle.subgraph.specs.Entries.{Entries, graph_triples, terms_with}
-use Rattle.subgraph.specs.Split.{graph_of}
+use Rattle.subgraph.specs.{Entries.Entries, Entries.graph_triples, Entries.terms_with, Split.graph_of}
 use Rattle.subgraph.proofs.Routed.{fewer_terms, need_no_more_room}
 use Rattle.world.specs.declared.applied.Outcome.{Outcome}
 use Rattle.world.specs.declared.applied.Outcome.TheVariants.{Same, Stored, Dropped, Sided}
-use Rattle.world.specs.declared.applied.RoutedPage.{RoutedPage}
-use Rattle.world.specs.Meaning.{meaning}
-use Rattle.world.specs.Roomed.{room_with}
-use Rattle.world.specs.Routed.{AreTriplesOf, GivesPage}
+use Rattle.world.specs.{declared.applied.RoutedPage.RoutedPage, Roomed.room_with, Routed.AreTriplesOf, Routed.GivesPage}
 use Rattle.world.specs.WorldState.{WorldState, next_stale, triples_anew, triples_of}
+use Rattle.fetched_pages.specs.Meaning.{meaning}
 use Rattle.splitting.specs.Graphs.{AreEntriesOf, GraphsState, HasRoomAnewIn, HasRoomIn, MayFollow, MayHaveRoom, MayHaveRoomAnew, routes_of, routing_by}
 use Rattle.splitting.proofs.Following.{held_in}
 

@@ -2,21 +2,15 @@
 use Rattle.std.proofs.Common.{◌≡◌, ℕ, true, List, Option, None, Some, is_some, unwrap_or, refl, sym, ◌∙◌, ap, subst}
 use Rattle.std.specs.FinMap as map
 use Rattle.sorted_sets.specs.Rising.{has}
-use Rattle.rdf_term.specs.declared.triple.Triple.{Triple}
-use Rattle.rdf_term.specs.Order.{triple_cmp}
-use Rattle.entity_model.specs.declared.id.EntityId.{EntityId}
-use Rattle.entity_model.specs.declared.mapping.MappingVersion.{MappingVersion}
-use Rattle.entity_state.specs.declared.record.Held.{Held}
-use Rattle.entity_state.specs.declared.record.Record.{Record}
-use Rattle.entity_state.specs.Record.{blank}
-use Rattle.replay_model.specs.Records.{Bytes, Records}
-use Rattle.replay_model.specs.Union.{Meaning}
-use Rattle.replay_model.specs.Versions.{all_by, meaning_by}
+use Rattle.rdf_term.specs.{declared.triple.Triple.Triple, Order.triple_cmp}
+use Rattle.entity_model.specs.{declared.id.EntityId.EntityId, declared.mapping.MappingVersion.MappingVersion}
+use Rattle.entity_state.specs.{declared.record.Held.Held, declared.record.Record.Record, Record.blank}
+use Rattle.replay_model.specs.{Records.Bytes, Records.Records, Union.Meaning, Versions.all_by, Versions.meaning_by}
 use Rattle.replay_model.proofs.Versions.{version-all}
 use Rattle.graph_routes.specs.declared.routes.Route.{Route}
 use Rattle.subgraph.specs.Laws.{routed_union, triples_routed}
 use Rattle.subgraph.proofs.Owning.{gathered_if, same_gathered}
-use Rattle.world.specs.Meaning.{meaning}
+use Rattle.fetched_pages.specs.Meaning.{meaning}
 use Rattle.splitting.specs.Graphs.{routing_by}
 
 module _ (routes : List Route) (v : MappingVersion) (records : Records) (graph : ℕ) where

@@ -3,8 +3,7 @@ use Rattle.std.specs.Prelude.{ℕ, List, Option, refl}
 use Rattle.std.specs.Coded.{Coded, code_by, coded×, coded_list, coded_option, coded_ℕ}
 use Rattle.std.specs.FinMap as map
 use Rattle.entity_model.specs.contracts.id.EntityId as entity_id
-use Rattle.subgraph.specs.Codes.{entry_code}
-use Rattle.subgraph.specs.Entries.{Entries}
+use Rattle.subgraph.specs.{Codes.entry_code, Entries.Entries}
 use Rattle.graph_routes.specs.contracts.routes.Route as route
 use Rattle.graph_routes.specs.declared.routes.Route.{Route}
 use Rattle.splitting.specs.Graphs.{GraphsState}

@@ -2,16 +2,12 @@
 use Rattle.std.specs.Prelude.{◌≡◌, cond, List, Option, None, Some}
 use Rattle.std.specs.FinMap as map
 use Rattle.sorted_sets.specs.Rising.{has}
-use Rattle.entity_model.specs.declared.id.EntityId.{EntityId}
-use Rattle.entity_model.specs.EntityId.{entity_cmp}
-use Rattle.replay_model.specs.Records.{record_of}
-use Rattle.replay_model.specs.Versions.{all_by, meaning_by}
+use Rattle.entity_model.specs.{declared.id.EntityId.EntityId, EntityId.entity_cmp}
+use Rattle.replay_model.specs.{Records.record_of, Versions.all_by, Versions.meaning_by}
 use Rattle.graph_routes.specs.declared.routes.Route.{Route}
-use Rattle.subgraph.specs.Entries.{Entries, Entry}
-use Rattle.subgraph.specs.Laws.{entry_held}
-use Rattle.world.specs.Meaning.{meaning}
-use Rattle.world.specs.Roomed.{HasRoom}
-use Rattle.world.specs.WorldState.{WorldState}
+use Rattle.subgraph.specs.{Entries.Entries, Entries.Entry, Laws.entry_held}
+use Rattle.fetched_pages.specs.Meaning.{meaning}
+use Rattle.world.specs.{Roomed.HasRoom, WorldState.WorldState}
 use Rattle.splitting.specs.Graphs.{routing_by}
 
 -- a world between two deliveries: every page is mapped by the version in force, and all that is held has room

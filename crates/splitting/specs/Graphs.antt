@@ -3,24 +3,17 @@ use Rattle.std.specs.Prelude.{◌≡◌, ℕ, ◌<◌, ◌≤◌, ◌+◌, ⊤, 
 use Rattle.std.specs.FinMap as map
 use Rattle.std.specs.List.{AllByRecursion}
 use Rattle.sorted_sets.specs.Rising.{sorted}
-use Rattle.rdf_term.specs.declared.triple.Triple.{Triple}
-use Rattle.rdf_term.specs.Fit.{HasFitAndShortTerms}
-use Rattle.rdf_term.specs.Order.{triple_cmp}
+use Rattle.rdf_term.specs.{declared.triple.Triple.Triple, Fit.HasFitAndShortTerms, Order.triple_cmp}
 use Rattle.entity_model.specs.declared.id.EntityId.{EntityId}
 use Rattle.replay_model.specs.Versions.{meaning_by}
 use Rattle.graph_routes.specs.declared.routes.Route.{Route}
-use Rattle.subgraph.specs.Entries.{Entries, graph_triples, terms_with}
-use Rattle.subgraph.specs.Laws.{IsSplitOf, Routing}
+use Rattle.subgraph.specs.{Entries.Entries, Entries.graph_triples, Entries.terms_with, Laws.IsSplitOf, Laws.Routing}
 use Rattle.subgraph.specs.Split.{entry, graph_of}
 use Rattle.world.specs.declared.applied.Outcome.{Outcome}
 use Rattle.world.specs.declared.applied.Outcome.TheVariants.{Same, Stored, Dropped, Sided}
-use Rattle.world.specs.declared.applied.RoutedPage.{RoutedPage}
-use Rattle.world.specs.Meaning.{meaning}
-use Rattle.world.specs.Routed.{route_of_page}
-use Rattle.world.specs.WorldState.{AreHolders, WorldState}
-use Rattle.text_output.specs.declared.write.Unwritten.{Unwritten}
-use Rattle.text_output.specs.declared.write.Unwritten.TheVariants.{OutOfMemory}
-use Rattle.text_output.specs.Printing.{Output}
+use Rattle.world.specs.{declared.applied.RoutedPage.RoutedPage, WorldState.AreHolders, WorldState.WorldState}
+use Rattle.fetched_pages.specs.{Meaning.meaning, Routing.route_of_page}
+use Rattle.text_output.specs.{declared.write.Unwritten.Unwritten, declared.write.Unwritten.TheVariants.OutOfMemory, Printing.Output}
 
 -- graphs: the routes; how many distinct terms each graph may have; and the entry of each entity, which is the index of its graph and its
 -- triples, or none where the graphs are lost
@@ -93,15 +86,13 @@ takes_memory Same page = false
 takes_memory Dropped page = false
 takes_memory (Sided cause) page = false
 
--- graphs that weren't lost aren't lost now
-abbrev pub AreKept : GraphsState → GraphsState → Type 0
-AreKept old new = IsSome old.entries → IsSome new.entries
+-- graphs aren't lost
+abbrev pub AreThere : GraphsState → Type 0
+AreThere graphs = IsSome graphs.entries
 
--- the same of graphs that there may be
-abbrev pub MayBeKept : Option GraphsState → Option GraphsState → Type 0
-MayBeKept (Some old) (Some new) = AreKept old new
-MayBeKept None new = new ≡ None
-MayBeKept (Some old) None = ⊥
+-- if there are graphs, they aren't lost
+abbrev pub NoneIsLost : Option GraphsState → Type 0
+NoneIsLost graphs = IfSome graphs (λ (g : GraphsState). AreThere g)
 
 -- ---- room
 

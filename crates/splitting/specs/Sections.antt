@@ -1,9 +1,7 @@
 -- What is printed of graphs.
 use Rattle.std.specs.Prelude.{ℕ, zero, suc, List, [], ◌++◌, length, flat_map, decimal, codes}
-use Rattle.rdf_term.specs.declared.triple.Triple.{Triple}
-use Rattle.rdf_term.specs.Text.{triple_text}
-use Rattle.graph_routes.specs.declared.routes.Route.{Route}
-use Rattle.graph_routes.specs.Routes.{graph_name}
+use Rattle.rdf_term.specs.{declared.triple.Triple.Triple, Text.triple_text}
+use Rattle.graph_routes.specs.{declared.routes.Route.Route, Routes.graph_name}
 
 -- the line `# ask <n> <name>: <count> triples`
 unfoldable pub graph_answer_head : ℕ → List ℕ → ℕ → List ℕ

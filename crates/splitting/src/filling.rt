@@ -8,7 +8,8 @@ ghost use Rattle.rdf_term.specs.{Fit.HasFitAndShortTerms, Order.triple_cmp};
 ghost use Rattle.entity_json.specs.Document.{unfit_of};
 ghost use Rattle.entity_model.specs.Document.{IsDocumentOf, IsSmall};
 ghost use Rattle.graph_routes.specs.Routing.{route_of};
-ghost use Rattle.world.specs.{Meaning.document_triples, Routed.IsRouted};
+ghost use Rattle.fetched_pages.specs.Meaning.{document_triples};
+ghost use Rattle.world.specs.Routed.{IsRouted};
 ghost use Rattle.splitting.specs.Filling.{AreAmong, HaveEntries, IsReadyFor, entry_in, with_entry};
 ghost use Rattle.splitting.specs.Graphs.{AreEntriesOf};
 

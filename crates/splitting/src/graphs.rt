@@ -10,7 +10,7 @@ ghost use Rattle.sorted_sets.specs.Rising.{sorted};
 ghost use Rattle.subgraph.specs.{Entries.graph_triples, Entries.terms_with, Split.entry, Split.graph_of};
 ghost use Rattle.world.specs.{Applying.Applies, Routed.AreTriplesOf, Routed.GivesPage};
 ghost use Rattle.world.specs.WorldState.{AreHolders, WorldState, by_two_after, next_stale, remapped};
-ghost use Rattle.splitting.specs.Graphs.{AreEntriesAfter, AreEntriesAnew, AreKept, Follow, HasRoomAnewIn, HasRoomIn, HaveRoom, HaveRoomAnew, IsSound, IsSoundFor, takes_memory};
+ghost use Rattle.splitting.specs.Graphs.{AreEntriesAfter, AreEntriesAnew, AreThere, Follow, HasRoomAnewIn, HasRoomIn, HaveRoom, HaveRoomAnew, IsSound, IsSoundFor, takes_memory};
 
 use entity_model::EntityId;
 use graph_routes::Routes;
@@ -23,7 +23,7 @@ use triple_texts::TripleTexts;
 use world::{Applied, Outcome, RoutedPage};
 
 /// Several graphs, by routes: one graph for each route, and a last one. An entity has its triples in one of them, or in none. If memory is
-/// refused while they follow a step, they are lost: they hold nothing from then on. A graph never lacks room if the world that it follows
+/// refused while they follow a step, they are lost: they hold nothing and follow nothing from then on. A graph never lacks room if the world that it follows
 /// has it. Contracts see the routes; how many distinct terms each graph may have; and the entry of each entity, which is the index of its
 /// graph and its triples, or none if the graphs are lost.
 #[derive(Drop)]
@@ -74,13 +74,21 @@ impl Graphs {
 
     /// Follows the application of an event, whose page is given back where it stored one: the entity has its triples in the graph that this
     /// page is routed to, and in no other, and in none where the page was deleted. This graph has room for it. Graphs that followed the world
-    /// before the application follow the world after it, or are lost, where memory was refused. Only a stored page takes memory.
-    pub fn follow_application(&mut self, applied: &Applied, routed: Option<RoutedPage>)
+    /// before the application follow the world after it, or are lost. Only a stored page takes memory.
+    ///
+    /// # Errors
+    /// Memory was refused, now or at an earlier step: the graphs are lost.
+    pub fn follow_application(
+        &mut self,
+        applied: &Applied,
+        routed: Option<RoutedPage>,
+    ) -> Result<(), OutOfMemory>
         requires sound { IsSound self.old.routes applied.now.outcome routed }
         requires room { HaveRoom self.old applied.now.outcome routed }
         ensures routes { self.new.routes ≡ self.old.routes }
         ensures limit { self.new.limit ≡ self.old.limit }
-        ensures kept { takes_memory applied.now.outcome routed ≡ false → AreKept self.old self.new }
+        ensures there { OnOk result (AreThere self.new) }
+        ensures free { AreThere self.old → takes_memory applied.now.outcome routed ≡ false → IsOk result }
         ensures follow { (known : Option Contents) (folder : List ℕ) (before after : WorldState) →
             Applies known folder before.replay after.replay applied.now → after.limit ≡ before.limit →
             after.by_two ≡ by_two_after applied.now.outcome before.mapping applied.now.event.entity before.by_two → AreHolders after.by_two after.replay.played.records →
@@ -89,29 +97,45 @@ impl Graphs {
     {
         let Some(split) = &mut self.split else {
             drop(routed);
-            return;
+            return Err(OutOfMemory);
         };
-        if apply(split, applied, routed).is_err() {
-            self.split = None;
+        match apply(split, applied, routed) {
+            Ok(()) => Ok(()),
+            Err(OutOfMemory) => {
+                self.split = None;
+                Err(OutOfMemory)
+            }
         }
     }
 
     /// Follows the remapping of an entity's page: these are its triples now, in the graph that it is in, which has room for them. Graphs
-    /// that followed the world before follow the world after it, or are lost, where memory was refused.
-    pub fn follow_remapping(&mut self, id: EntityId, triples: &TripleTexts)
+    /// that followed the world before follow the world after it, or are lost.
+    ///
+    /// # Errors
+    /// Memory was refused, now or at an earlier step: the graphs are lost.
+    pub fn follow_remapping(
+        &mut self,
+        id: EntityId,
+        triples: &TripleTexts,
+    ) -> Result<(), OutOfMemory>
         requires fit { AllByRecursion HasFitAndShortTerms triples.now }
         requires room { HaveRoomAnew self.old id triples.now }
         ensures routes { self.new.routes ≡ self.old.routes }
         ensures limit { self.new.limit ≡ self.old.limit }
+        ensures there { OnOk result (AreThere self.new) }
         ensures follow { (before : WorldState) → next_stale before ≡ Some id →
             AreTriplesOf before.mapping id (record_of before.replay.played.records id).held triples.now → AreHolders (remapped before).by_two before.replay.played.records →
             Follow self.old before → Follow self.new (remapped before) }
     {
         let Some(split) = &mut self.split else {
-            return;
+            return Err(OutOfMemory);
         };
-        if remap(split, id, triples).is_err() {
-            self.split = None;
+        match remap(split, id, triples) {
+            Ok(()) => Ok(()),
+            Err(OutOfMemory) => {
+                self.split = None;
+                Err(OutOfMemory)
+            }
         }
     }
 }

@@ -4,7 +4,8 @@ ghost use Rattle.rdf_term.specs.Pattern.{rows};
 ghost use Rattle.replay_model.specs.Versions.{meaning_by};
 ghost use Rattle.subgraph.specs.Laws.{routed_union};
 ghost use Rattle.text_output.specs.Printing.{Prints, output};
-ghost use Rattle.world.specs.{Meaning.meaning, WorldState.WorldState};
+ghost use Rattle.fetched_pages.specs.Meaning.{meaning};
+ghost use Rattle.world.specs.WorldState.{WorldState};
 ghost use Rattle.splitting.specs.Graphs.{Follow, PrintNothingIfLost, routing_by};
 ghost use Rattle.splitting.specs.Sections.{graph_answer, graph_answers, graph_section, graph_sections};
 

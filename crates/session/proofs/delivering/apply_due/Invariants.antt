@@ -3,11 +3,9 @@ use Rattle.std.proofs.Common.{◌≡◌, length}
 use Rattle.text_output.specs.Printing.{output}
 use Rattle.checkpoint.specs.Saved.{AreWithin}
 use Rattle.splitting.specs.Graphs.{MayFollow, routes_of}
-use Rattle.session.specs.declared.report.Report.TheVariants.{Answers}
-use Rattle.session.specs.Moment.{HasGoneOn, HasWrittenOn, stage}
-use Rattle.session.specs.Moved.{environment_in, GoesOn, moved}
-use Rattle.session.specs.Remapping.{KeepsVersion, mapped_in}
-use Rattle.session.proofs.Due.{Goes}
+use Rattle.run_model.specs.{declared.report.Report.TheVariants.Answers, Moment.HasGoneOn, Moment.HasWrittenOn, Moment.stage}
+use Rattle.run_model.specs.{Moved.environment_in, Moved.GoesOn, Moved.moved, Remapping.KeepsVersion, Remapping.mapped_in}
+use Rattle.run_model.proofs.Due.{Goes}
 use Rattle.session.proofs.delivering.apply_due.Given as goal
 
 abbrev pub invariant-loop-applied : goal.invariant-loop-applied

@@ -3,10 +3,8 @@ use Rattle.std.proofs.Common.{refl}
 use Rattle.std.proofs.lemmas.Result.{err_from_is_err_and}
 use Rattle.text_output.specs.Printing.{output}
 use Rattle.replay_model.specs.Transcript.{for_bindings, for_triples}
-use Rattle.session.specs.Moment.{Environment, Stage, stage}
-use Rattle.session.specs.Moved.{environment_in}
-use Rattle.session.specs.Remapping.{mapped_in}
-use Rattle.session.proofs.Deliveries.{ask_cut_off, ask_taken, event_cut_off, event_taken, mapping_cut_off, mapping_taken, mark_cut_off, mark_taken}
+use Rattle.run_model.specs.{Moment.Environment, Moment.Stage, Moment.stage, Moved.environment_in, Remapping.mapped_in}
+use Rattle.run_model.proofs.Deliveries.{ask_cut_off, ask_taken, event_cut_off, event_taken, mapping_cut_off, mapping_taken, mark_cut_off, mark_taken}
 use Rattle.session.proofs.delivering.deliver.Goals as goal
 
 pub returns-in_ok-answer-in-Event-clause-ok : goal.returns-in_ok-answer-in-Event-clause-ok

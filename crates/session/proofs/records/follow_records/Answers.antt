@@ -2,7 +2,7 @@
 use Rattle.std.specs.FinMap.{len-empty}
 use Rattle.replay_model.specs.Play.{nothing_played}
 use Rattle.world.proofs.Rooming.{nothing_held}
-use Rattle.session.proofs.Ongoing.{followed_on}
+use Rattle.run_model.proofs.Ongoing.{followed_on}
 use Rattle.session.proofs.Plans.{follow_stopped}
 use Rattle.session.proofs.records.follow_records.Goals as goal
 
@@ -22,7 +22,7 @@ pub returns-in-Err-clause-held : goal.returns-in-Err-clause-held
 returns-in-Err-clause-held g c = rw (c.set_room.ensures, c.requires.world) (nothing_held _ nothing_played.records _ (len-empty _ _))
 
 pub returns-in-Ok-clause-further : goal.returns-in-Ok-clause-further
-returns-in-Ok-clause-further g c = followed_on g.S.Source g.R.Revisions g.K.Sink g.F.Sink c.args.ports.now _ _ c.follow.ensures.later c.follow.ensures.most (record { faults = c.follow.ensures.written; most = c.follow.ensures.most_written })
+returns-in-Ok-clause-further g c = followed_on g.S.Source g.R.Revisions g.K.Sink g.F.Snapshots c.args.ports.now _ _ c.follow.ensures.later c.follow.ensures.most (record { faults = c.follow.ensures.written; most = c.follow.ensures.most_written })
 
 pub returns-in-Err-clause-further : goal.returns-in-Err-clause-further
-returns-in-Err-clause-further g c = followed_on g.S.Source g.R.Revisions g.K.Sink g.F.Sink c.args.ports.now _ _ c.follow.ensures.later c.follow.ensures.most (record { faults = c.follow.ensures.written; most = c.follow.ensures.most_written })
+returns-in-Err-clause-further g c = followed_on g.S.Source g.R.Revisions g.K.Sink g.F.Snapshots c.args.ports.now _ _ c.follow.ensures.later c.follow.ensures.most (record { faults = c.follow.ensures.written; most = c.follow.ensures.most_written })

@@ -1,13 +1,13 @@
 -- No page yet, one more, and all of them.
 use Rattle.std.proofs.Common.{◌≡◌, ◌<◌, length, refl, sym, subst, ap, ◌∙◌, arith, Err}
+use Rattle.std.proofs.lemmas.Result.{err_from_is_err_and}
 use Rattle.splitting.specs.Graphs.{MayFollow}
-use Rattle.splitting.proofs.Fresh.{follow_same}
-use Rattle.splitting.proofs.Roomed.{may_have_room_anew}
+use Rattle.splitting.proofs.{Fresh.follow_same, Roomed.may_have_room_anew}
 use Rattle.world.specs.WorldState.{AreHolders, WorldState, stale}
 use Rattle.term_pool.specs.declared.fault.PoolFault.TheVariants.{Full, OutOfMemory}
-use Rattle.session.proofs.Pages.{told_all, told_before, told_but_last, told_next, told_none}
-use Rattle.session.proofs.Reports.{never_unprinted, still_silent}
-use Rattle.session.proofs.Versions.{Remaps, remaps_all, remaps_all_roomed, remaps_full, remaps_next, remaps_none}
+use Rattle.run_model.proofs.Pages.{told_all, told_before, told_but_last, told_next, told_none}
+use Rattle.run_model.proofs.Reports.{never_unprinted, still_silent}
+use Rattle.run_model.proofs.Versions.{Remaps, remaps_all, remaps_all_roomed, remaps_full, remaps_next, remaps_none}
 use Rattle.session.proofs.remapping.take_mapping.Goals as goal
 
 pub loop-replay-init : goal.loop-replay-init
@@ -35,22 +35,22 @@ loop-replay-preserved g c =
       told = told_next _ _ _ _ _ c.loop-replay.replay-inside.world c.remap_next_with.new.self _ _ _ b.told call.ok some c.in-Ok.now remaps told;
       written = record { faults = omega (arith, b.written.faults, c.in-Ok.ensures.written.faults); most = c.in-Ok.ensures.written.most ∙ b.written.most };
       kept = (
-        subst (MayFollow c.follow_remapping.new.graphs) (sym call.ok)
-            (c.follow_remapping.ensures.follow c.loop-replay.replay-inside.world (sym (rw c.in-Ok-Some.field-0-is at call.entity)) (rw c.in-Ok-Some.field-0-is at call.triples)
+        subst (MayFollow c.follow_remapping-followed.new.graphs) (sym call.ok)
+            (c.follow_remapping-followed.ensures.follow c.loop-replay.replay-inside.world (sym (rw c.in-Ok-Some.field-0-is at call.entity)) (rw c.in-Ok-Some.field-0-is at call.triples)
             (subst (λ (w : WorldState). AreHolders w.by_two w.replay.played.records) call.ok c.remap_next_with.ensures.holders) b.kept.0),
         b.kept.1,
       );
-      same = record { limit = remaps.limit; routes = c.follow_remapping.ensures.routes ∙ b.same.routes; earlier = b.same.earlier };
+      same = record { limit = remaps.limit; routes = c.follow_remapping-followed.ensures.routes ∙ b.same.routes; earlier = b.same.earlier };
       silent = λ answers. still_silent _ _ _ _ _ _ answers told ∙ b.silent answers;
     }
 
-pub follow_remapping-requires-clause-fit : goal.follow_remapping-requires-clause-fit
-follow_remapping-requires-clause-fit g c =
+pub follow_remapping-followed-requires-clause-fit : goal.follow_remapping-followed-requires-clause-fit
+follow_remapping-followed-requires-clause-fit g c =
     let are = rw c.in-Ok-Some.field-0-is at c.in-Ok-Some.ensures.triples in
     are.fit
 
-pub follow_remapping-requires-clause-room : goal.follow_remapping-requires-clause-room
-follow_remapping-requires-clause-room g c =
+pub follow_remapping-followed-requires-clause-room : goal.follow_remapping-followed-requires-clause-room
+follow_remapping-followed-requires-clause-room g c =
     let call = c.in-Ok-Some.ensures in
     may_have_room_anew c.loop-replay.replay-inside.graphs c.loop-replay.replay-inside.world _ _ c.loop-replay.invariant.kept.0 (sym (rw c.in-Ok-Some.field-0-is at call.entity)) (rw c.in-Ok-Some.field-0-is at call.triples) call.within
 
@@ -85,6 +85,36 @@ pub returns-in-Err-clause-silent : goal.returns-in-Err-clause-silent
 returns-in-Err-clause-silent g c =
     let changed = rw (c.telling.ensures, c.in-Ok-Some.field-0-is) at c.in-Ok-Some.ensures.change in
     λ answers. never_unprinted _ c.in-Err.why _ _ _ _ answers (c.in-Err.ensures.tells _ _ changed)
+
+-- ---- the graphs are lost
+
+pub returns-in_err-followed-in-Ok-Some-clause-state : goal.returns-in_err-followed-in-Ok-Some-clause-state
+returns-in_err-followed-in-Ok-Some-clause-state g c =
+    let call = c.in-Ok-Some.ensures in
+    let remaps : Remaps c.args.version c.args.replay.now.world c.remap_next_with.new.self = remaps_next _ _ c.loop-replay.replay-inside.world c.remap_next_with.new.self c.loop-replay.invariant.told.remaps call.ok c.remap_next_with.ensures.holders call.within in
+    remaps.replay
+
+pub returns-in_err-followed-in-Ok-Some-clause-err : goal.returns-in_err-followed-in-Ok-Some-clause-err
+returns-in_err-followed-in-Ok-Some-clause-err g c =
+    let p = err_from_is_err_and c.from_residual.result c.from_residual.ensures.1 in
+    let b = c.loop-replay.invariant in
+    let call = c.in-Ok-Some.ensures in
+    let some : 0 < length (stale c.loop-replay.replay-inside.world) = omega (arith, c.stale.ensures.count, c.loop-replay-test.true) in
+    let remaps : Remaps c.args.version c.args.replay.now.world c.remap_next_with.new.self = remaps_next _ _ c.loop-replay.replay-inside.world c.remap_next_with.new.self b.told.remaps call.ok c.remap_next_with.ensures.holders call.within in
+    let changed = rw (c.telling.ensures, c.in-Ok-Some.field-0-is) at call.change in
+    let told = c.in-Ok.ensures.tells _ _ changed in
+    rw (p.1, p.2) (told_before _ OutOfMemory _ _ _ _ c.remap_next_with.new.self c.remap_next_with.new.self _ _
+    (told_next _ _ _ _ _ c.loop-replay.replay-inside.world c.remap_next_with.new.self _ _ _ b.told call.ok some c.in-Ok.now remaps told) refl tt)
+
+pub returns-in_err-followed-in-Ok-Some-clause-written : goal.returns-in_err-followed-in-Ok-Some-clause-written
+returns-in_err-followed-in-Ok-Some-clause-written g c =
+    let b = c.loop-replay.invariant in
+    record { faults = omega (arith, b.written.faults, c.in-Ok.ensures.written.faults); most = c.in-Ok.ensures.written.most ∙ b.written.most }
+
+pub returns-in_err-followed-in-Ok-Some-clause-silent : goal.returns-in_err-followed-in-Ok-Some-clause-silent
+returns-in_err-followed-in-Ok-Some-clause-silent g c =
+    let changed = rw (c.telling.ensures, c.in-Ok-Some.field-0-is) at c.in-Ok-Some.ensures.change in
+    λ answers. still_silent _ _ _ _ _ _ answers (c.in-Ok.ensures.tells _ _ changed) ∙ c.loop-replay.invariant.silent answers
 
 -- ---- no room
 

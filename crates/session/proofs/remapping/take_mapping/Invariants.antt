@@ -4,10 +4,8 @@ use Rattle.text_output.specs.Printing.{output}
 use Rattle.world.specs.WorldState.{stale}
 use Rattle.checkpoint.specs.Saved.{AreWithin}
 use Rattle.splitting.specs.Graphs.{MayFollow, routes_of}
-use Rattle.session.specs.declared.report.Report.TheVariants.{Answers}
-use Rattle.session.specs.Moment.{HasWrittenOn}
-use Rattle.session.specs.Moved.{GoesOn, moved}
-use Rattle.session.proofs.Pages.{RemapsTold}
+use Rattle.run_model.specs.{declared.report.Report.TheVariants.Answers, Moment.HasWrittenOn, Moved.GoesOn, Moved.moved}
+use Rattle.run_model.proofs.Pages.{RemapsTold}
 use Rattle.session.proofs.remapping.take_mapping.Given as goal
 
 abbrev pub invariant-loop-replay : goal.invariant-loop-replay

@@ -1,10 +1,9 @@
 -- What graphs that follow the world have is what is routed to them; without graphs the sections are printed.
 use Rattle.std.proofs.Common.{None, subst}
-use Rattle.replay_model.specs.Transcript.{Sections}
-use Rattle.replay_model.specs.Versions.{meaning_by}
+use Rattle.replay_model.specs.{Transcript.Sections, Versions.meaning_by}
 use Rattle.text_output.specs.Printing.{Prints, output}
-use Rattle.world.specs.Meaning.{meaning}
-use Rattle.session.specs.Course.{closing_held}
+use Rattle.fetched_pages.specs.Meaning.{meaning}
+use Rattle.run_model.specs.Course.{closing_held}
 use Rattle.session.proofs.replaying.print_end.Goals as goal
 
 pub returns-in-Some : goal.returns-in-Some

@@ -1,7 +1,7 @@
 -- What is loaded is a snapshot. Memory for the graphs may be refused, or the options name another horizon than the snapshot's.
 use Rattle.std.proofs.Common.{ap, ◌∙◌, inl, inr, ⊎_elim}
 use Rattle.world.specs.WorldState.{WorldState}
-use Rattle.session.proofs.Loaded.{is_snapshot}
+use Rattle.run_model.proofs.Loaded.{is_snapshot}
 use Rattle.session.proofs.resuming.load_start.Goals as goal
 
 pub graphs_of-requires : goal.graphs_of-requires
@@ -28,7 +28,7 @@ returns-in-Err-graphs_of-clause-err g c =
       other.0,
       record {
         world = c.in-Ok.loaded.world;
-        numbers = c.in-Ok.loaded.numbers;
+        numbers = c.in-Ok.loaded.counts;
         loaded = is_snapshot _ _ _ _ x.saved (rw c.max_terms.ensures at x.world) x.rests x.documents x.applied x.counts x.held;
         differs = other.1;
       },

@@ -3,13 +3,10 @@ use Rattle.std.proofs.Common.{◌≡◌, ◌⊎◌, ◌∙◌, sym, ap, Some, in
 use Rattle.arguments.specs.declared.plan.Plan.TheVariants.{Replay, Drill, Patches, Follow, Split}
 use Rattle.following.specs.Following.{follow_moment}
 use Rattle.session.specs.Plans.{DrillEnding, IsRunOf, MaySave, limit_of_plan, FollowEnding}
-use Rattle.session.specs.Moment.{Run, moment, run_of, stage}
-use Rattle.session.specs.Remapping.{HoldsWithin}
-use Rattle.session.specs.Resuming.{RunEnding}
-use Rattle.session.specs.Stop.{stop_of}
+use Rattle.run_model.specs.{Moment.Run, Moment.moment, Moment.stage, Remapping.HoldsWithin, Resuming.RunEnding, Stop.stop_of}
 use Rattle.world.specs.WorldState.{WorldState}
 use Rattle.drill_replay.specs.Playing.{IsByFirst}
-use Rattle.session.proofs.Ongoing.{none_gone, written_on}
+use Rattle.run_model.proofs.Ongoing.{none_gone, written_on}
 use Rattle.session.proofs.Plans.{for_follow, for_plan, for_size}
 use Rattle.session.proofs.running.run.Goals as goal
 
@@ -17,8 +14,8 @@ use Rattle.session.proofs.running.run.Goals as goal
 
 pub returns-in-Some-Replay-clause-replay : goal.returns-in-Some-Replay-clause-replay
 returns-in-Some-Replay-clause-replay g c = λ the plan.
-    for_plan (λ x. (run : Run) → IsRunOf x (g.R.Revisions.contents c.args.ports.now.revisions) run → RunEnding (stop_of c.run_replay.result.0) run (moment g.S.Source g.R.Revisions g.K.Sink g.F.Sink c.args.ports.now c.args.world) (moment g.S.Source g.R.Revisions g.K.Sink g.F.Sink c.run_replay.new.ports c.run_replay.result.1))
-    (Replay c.in-Some-Replay.options) the (ap Some (sym c.in-Some-Replay.field-0-is) ∙ c.in-Some-Replay.ensures.value ∙ plan) (λ run is. subst (λ r. RunEnding (stop_of c.run_replay.result.0) r (moment g.S.Source g.R.Revisions g.K.Sink g.F.Sink c.args.ports.now c.args.world) (moment g.S.Source g.R.Revisions g.K.Sink g.F.Sink c.run_replay.new.ports c.run_replay.result.1)) (sym is) c.run_replay.ensures.ending)
+    for_plan (λ x. (run : Run) → IsRunOf x (g.R.Revisions.contents c.args.ports.now.revisions) run → RunEnding (stop_of c.run_replay.result.0) run (moment g.S.Source g.R.Revisions g.K.Sink g.F.Snapshots c.args.ports.now c.args.world) (moment g.S.Source g.R.Revisions g.K.Sink g.F.Snapshots c.run_replay.new.ports c.run_replay.result.1))
+    (Replay c.in-Some-Replay.options) the (ap Some (sym c.in-Some-Replay.field-0-is) ∙ c.in-Some-Replay.ensures.value ∙ plan) (λ run is. subst (λ r. RunEnding (stop_of c.run_replay.result.0) r (moment g.S.Source g.R.Revisions g.K.Sink g.F.Snapshots c.args.ports.now c.args.world) (moment g.S.Source g.R.Revisions g.K.Sink g.F.Snapshots c.run_replay.new.ports c.run_replay.result.1)) (sym is) c.run_replay.ensures.ending)
 
 pub returns-in-Some-Replay-clause-limit : goal.returns-in-Some-Replay-clause-limit
 returns-in-Some-Replay-clause-limit g c = λ the plan.
@@ -32,8 +29,8 @@ returns-in-Some-Replay-clause-unsaved g c = λ the plan.
 
 pub returns-in-Some-Patches-clause-replay : goal.returns-in-Some-Patches-clause-replay
 returns-in-Some-Patches-clause-replay g c = λ the plan.
-    for_plan (λ x. (run : Run) → IsRunOf x (g.R.Revisions.contents c.args.ports.now.revisions) run → RunEnding (stop_of c.run_replay-in-Some-Patches.result.0) run (moment g.S.Source g.R.Revisions g.K.Sink g.F.Sink c.args.ports.now c.args.world) (moment g.S.Source g.R.Revisions g.K.Sink g.F.Sink c.run_replay-in-Some-Patches.new.ports c.run_replay-in-Some-Patches.result.1))
-    (Patches c.in-Some-Patches.options) the (ap Some (sym c.in-Some-Patches.field-0-is) ∙ c.in-Some-Patches.ensures.value ∙ plan) (λ run is. subst (λ r. RunEnding (stop_of c.run_replay-in-Some-Patches.result.0) r (moment g.S.Source g.R.Revisions g.K.Sink g.F.Sink c.args.ports.now c.args.world) (moment g.S.Source g.R.Revisions g.K.Sink g.F.Sink c.run_replay-in-Some-Patches.new.ports c.run_replay-in-Some-Patches.result.1)) (sym is) c.run_replay-in-Some-Patches.ensures.ending)
+    for_plan (λ x. (run : Run) → IsRunOf x (g.R.Revisions.contents c.args.ports.now.revisions) run → RunEnding (stop_of c.run_replay-in-Some-Patches.result.0) run (moment g.S.Source g.R.Revisions g.K.Sink g.F.Snapshots c.args.ports.now c.args.world) (moment g.S.Source g.R.Revisions g.K.Sink g.F.Snapshots c.run_replay-in-Some-Patches.new.ports c.run_replay-in-Some-Patches.result.1))
+    (Patches c.in-Some-Patches.options) the (ap Some (sym c.in-Some-Patches.field-0-is) ∙ c.in-Some-Patches.ensures.value ∙ plan) (λ run is. subst (λ r. RunEnding (stop_of c.run_replay-in-Some-Patches.result.0) r (moment g.S.Source g.R.Revisions g.K.Sink g.F.Snapshots c.args.ports.now c.args.world) (moment g.S.Source g.R.Revisions g.K.Sink g.F.Snapshots c.run_replay-in-Some-Patches.new.ports c.run_replay-in-Some-Patches.result.1)) (sym is) c.run_replay-in-Some-Patches.ensures.ending)
 
 pub returns-in-Some-Patches-clause-limit : goal.returns-in-Some-Patches-clause-limit
 returns-in-Some-Patches-clause-limit g c = λ the plan.
@@ -47,8 +44,8 @@ returns-in-Some-Patches-clause-unsaved g c = λ the plan.
 
 pub returns-in-Some-Split-clause-replay : goal.returns-in-Some-Split-clause-replay
 returns-in-Some-Split-clause-replay g c = λ the plan.
-    for_plan (λ x. (run : Run) → IsRunOf x (g.R.Revisions.contents c.args.ports.now.revisions) run → RunEnding (stop_of c.split.result.0) run (moment g.S.Source g.R.Revisions g.K.Sink g.F.Sink c.args.ports.now c.args.world) (moment g.S.Source g.R.Revisions g.K.Sink g.F.Sink c.split.new.ports c.split.result.1))
-    (Split c.in-Some-Split.options) the (ap Some (sym c.in-Some-Split.field-0-is) ∙ c.in-Some-Split.ensures.value ∙ plan) (λ run is. subst (λ r. RunEnding (stop_of c.split.result.0) r (moment g.S.Source g.R.Revisions g.K.Sink g.F.Sink c.args.ports.now c.args.world) (moment g.S.Source g.R.Revisions g.K.Sink g.F.Sink c.split.new.ports c.split.result.1)) (sym is.is) (c.split.ensures.ending is.routes is.are))
+    for_plan (λ x. (run : Run) → IsRunOf x (g.R.Revisions.contents c.args.ports.now.revisions) run → RunEnding (stop_of c.split.result.0) run (moment g.S.Source g.R.Revisions g.K.Sink g.F.Snapshots c.args.ports.now c.args.world) (moment g.S.Source g.R.Revisions g.K.Sink g.F.Snapshots c.split.new.ports c.split.result.1))
+    (Split c.in-Some-Split.options) the (ap Some (sym c.in-Some-Split.field-0-is) ∙ c.in-Some-Split.ensures.value ∙ plan) (λ run is. subst (λ r. RunEnding (stop_of c.split.result.0) r (moment g.S.Source g.R.Revisions g.K.Sink g.F.Snapshots c.args.ports.now c.args.world) (moment g.S.Source g.R.Revisions g.K.Sink g.F.Snapshots c.split.new.ports c.split.result.1)) (sym is.is) (c.split.ensures.ending is.routes is.are))
 
 -- ---- a drill
 
@@ -63,7 +60,7 @@ returns-in-Some-Drill-clause-limit g c = λ the plan.
     inr (for_plan (λ x. (c.drill.result.1.limit ≡ limit_of_plan x) × HoldsWithin (limit_of_plan x) c.drill.result.1) (Drill c.in-Some-Drill.size) the (ap Some (sym c.in-Some-Drill.field-0-is) ∙ c.in-Some-Drill.ensures.value ∙ plan) c.drill.ensures.limit)
 
 pub returns-in-Some-Drill-clause-further : goal.returns-in-Some-Drill-clause-further
-returns-in-Some-Drill-clause-further g c = written_on g.S.Source g.R.Revisions g.K.Sink g.F.Sink c.args.ports.now c.args.ports.now c.drill.new.out (none_gone g.S.Source g.R.Revisions g.K.Sink g.F.Sink _) c.drill.ensures.written
+returns-in-Some-Drill-clause-further g c = written_on g.S.Source g.R.Revisions g.K.Sink g.F.Snapshots c.args.ports.now c.args.ports.now c.drill.new.out (none_gone g.S.Source g.R.Revisions g.K.Sink g.F.Snapshots _) c.drill.ensures.written
 
 -- ---- a follower
 

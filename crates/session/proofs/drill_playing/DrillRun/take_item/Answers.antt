@@ -3,10 +3,9 @@ use Rattle.std.proofs.Common.{refl, length, ◌≡◌, ◌∙◌, ◌≤◌, ◌
 use Rattle.text_output.specs.Printing.{output}
 use Rattle.drill.specs.Drill.{IsSize, item_deliveries, drill}
 use Rattle.drill_replay.specs.Playing.{IsPartOf}
-use Rattle.drill_replay.proofs.Drills.{few_deliveries, part_in}
-use Rattle.drill_replay.proofs.Taking.{cut, few_more, one_more, whole}
+use Rattle.drill_replay.proofs.{Drills.few_deliveries, Drills.part_in, Taking.cut, Taking.few_more, Taking.one_more, Taking.whole}
 use Rattle.session.specs.DrillPlaying.{HasTakenFirst}
-use Rattle.session.proofs.Deliveries.{rest_open}
+use Rattle.run_model.proofs.Deliveries.{rest_open}
 use Rattle.session.proofs.DrillPlaying.{cut_off, first_of, halted_in, leaves_at_rest, leaves_halted, next_of, next_taken, part_at_rest, silent}
 use Rattle.session.proofs.drill_playing.DrillRun.take_item.Goals as goal
 

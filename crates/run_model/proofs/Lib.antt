@@ -1,0 +1,17 @@
+pub mod Along
+pub mod Answers
+pub mod Deliveries
+pub mod Due
+pub mod Ends
+pub mod Explaining
+pub mod FromNothing
+pub mod Loaded
+pub mod Needed
+pub mod Ongoing
+pub mod Pages
+pub mod Printed
+pub mod Progress
+pub mod Reading
+pub mod Reports
+pub mod Saves
+pub mod Versions

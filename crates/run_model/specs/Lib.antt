@@ -1,0 +1,13 @@
+pub mod Course
+pub mod Delivering
+pub mod Headline
+pub mod Moment
+pub mod Moved
+pub mod OneRun
+pub mod Reading
+pub mod Remapping
+pub mod Report
+pub mod Resuming
+pub mod Status
+pub mod Stop
+pub mod Taking
