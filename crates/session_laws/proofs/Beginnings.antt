@@ -1,23 +1,18 @@
 -- The first lines of an input are a beginning of its deliveries, with their events and their versions of the mapping.
 use Rattle.std.proofs.Common.{◌≡◌, refl, sym, subst, ◌∙◌, ap, inl, inr, ℕ, List, [], ◌∷◌, ◌++◌, append_assoc, append-nil, ◌||◌, Option, None, Some, IfSome, Result, Ok, Err, filter_map, unwrap_or}
-use Rattle.std.specs.List.{last_or}
-use Rattle.std.specs.Option.{option_map}
+use Rattle.std.specs.{List.last_or, Option.option_map}
 use Rattle.std.proofs.lemmas.List.Elements.{filter_map-append}
 use Rattle.sorted_sets.specs.Rising.{In, has}
 use Rattle.sorted_sets.proofs.Rising.{has-append}
-use Rattle.wq_io.specs.Lines.{lines, input_lines}
-use Rattle.wq_io.specs.Streams.{before_known}
-use Rattle.delivery.specs.declared.Delivery.{Delivery}
-use Rattle.delivery.specs.declared.Delivery.TheVariants.{Mapping}
-use Rattle.entity_model.specs.declared.mapping.MappingVersion.{MappingVersion}
-use Rattle.entity_model.specs.declared.mapping.MappingVersion.TheVariants.{One}
+use Rattle.wq_io.specs.{Lines.lines, Lines.input_lines, Streams.before_known}
+use Rattle.delivery.specs.{declared.Delivery.Delivery, declared.Delivery.TheVariants.Mapping}
+use Rattle.entity_model.specs.{declared.mapping.MappingVersion.MappingVersion, declared.mapping.MappingVersion.TheVariants.One}
 use Rattle.entity_model.specs.Event.{event_cmp}
 use Rattle.event_line.specs.declared.faults.LineCause.{LineCause}
 use Rattle.replay_model.specs.Acceptance.{event_of, events, mapping_of, version_in_force}
 use Rattle.drill_replay.specs.Told.{versions_told}
-use Rattle.session.specs.Reading.{AreDeliveries, AreFirst, deliveries_of, line_delivers, onto_deliveries}
-use Rattle.drill_replay.proofs.Gathered.{in_front, in_rest}
-use Rattle.drill_replay.proofs.Named.{AreAmong}
+use Rattle.run_model.specs.Reading.{AreDeliveries, AreFirst, deliveries_of, line_delivers, onto_deliveries}
+use Rattle.drill_replay.proofs.{Gathered.in_front, Gathered.in_rest, Named.AreAmong}
 
 -- the deliveries begin with these
 pub record Begins (ds first : List Delivery) : Type 0 where
@@ -35,20 +30,20 @@ begins-all ds = record { rest = []; is = sym (append-nil ds) }
 -- ---- lines
 
 -- a delivery before others, all of which are there
-record IsOnto (r : Result Delivery LineCause) (o : Option (List Delivery)) (ds : List Delivery) : Type 0 where
-  head : Delivery
-  tail : List Delivery
-  line : r ≡ Ok head
-  others : o ≡ Some tail
-  is : ds ≡ head ∷ tail
+pub record IsOnto (r : Result Delivery LineCause) (o : Option (List Delivery)) (ds : List Delivery) : Type 0 where
+  pub head : Delivery
+  pub tail : List Delivery
+  pub line : r ≡ Ok head
+  pub others : o ≡ Some tail
+  pub is : ds ≡ head ∷ tail
 
-onto_parts : (r : Result Delivery LineCause) (o : Option (List Delivery)) (ds : List Delivery) → onto_deliveries r o ≡ Some ds → IsOnto r o ds
+pub onto_parts : (r : Result Delivery LineCause) (o : Option (List Delivery)) (ds : List Delivery) → onto_deliveries r o ≡ Some ds → IsOnto r o ds
 onto_parts (Ok d) (Some others) ds is = let same : d ∷ others ≡ ds = cc in record { head = d; tail = others; line = refl; others = refl; is = sym same }
 onto_parts (Ok d) None ds is = cc
 onto_parts (Err cause) o ds is = cc
 
 -- the deliveries of the first lines are the first deliveries
-first_deliveries : (before others : List (List ℕ)) (first ds : List Delivery) → deliveries_of before ≡ Some first → deliveries_of (before ++ others) ≡ Some ds → Begins ds first
+pub first_deliveries : (before others : List (List ℕ)) (first ds : List Delivery) → deliveries_of before ≡ Some first → deliveries_of (before ++ others) ≡ Some ds → Begins ds first
 first_deliveries [] others first ds is all = let none : [] ≡ first = cc in record { rest = ds; is = ap (λ l. l ++ ds) none }
 first_deliveries (line ∷ before) others first ds is all =
     let a = onto_parts (line_delivers line) (deliveries_of before) first is in

@@ -1,51 +1,35 @@
 -- Where nothing goes wrong: which statuses there are, and what the world is.
-use Rattle.std.proofs.Common.{◌≡◌, ◌⊎◌, refl, sym, subst, ◌∙◌, ap, inl, inr, ⊎_elim, ℕ, zero, suc, ◌+◌, ◌<◌, ◌≤◌, Bool, true, false, cond, not, List, [], ◌∷◌, ◌++◌, length, take, Option, None, Some, IfSome, Result, Ok, Err, arith}
+use Rattle.std.proofs.Common.{◌≡◌, ◌⊎◌, refl, sym, subst, ◌∙◌, ap, inl, inr, ⊎_elim, ℕ, zero, suc, ◌+◌, ◌<◌, ◌≤◌, Bool, true, false, cond, not, List, [], ◌∷◌, ◌++◌, length, take, filter, Option, None, Some, IfSome, IsSome, Result, Ok, Err, arith}
 use Rattle.std.proofs.lemmas.Bool.{le-leb, lt-leb}
-use Rattle.std.specs.List.{flat_map}
-use Rattle.std.specs.Option.{unwrap_or}
+use Rattle.std.specs.{List.flat_map, Option.unwrap_or}
 use Rattle.std.specs.FinMap as map
 use Rattle.sorted_sets.specs.Rising.{Each, has, sorted}
-use Rattle.wq_io.specs.Streams.{Rose}
-use Rattle.wq_io.specs.Lines.{IsLineLong, IsOneLine, lines, longest_line, onto_first_line}
+use Rattle.wq_io.specs.{Streams.Rose, Lines.IsLineLong, Lines.IsOneLine, Lines.lines, Lines.longest_line, Lines.onto_first_line}
 use Rattle.wq_io.proofs.LineLists.{one_line-cons}
 use Rattle.rdf_term.specs.Order.{triple_cmp}
 use Rattle.delivery.specs.declared.Delivery.{Delivery}
-use Rattle.entity_model.specs.declared.event.Event.{Event}
-use Rattle.entity_model.specs.declared.id.EntityId.{EntityId}
-use Rattle.entity_model.specs.declared.mapping.MappingVersion.{MappingVersion}
+use Rattle.entity_model.specs.{declared.event.Event.Event, declared.id.EntityId.EntityId, declared.mapping.MappingVersion.MappingVersion}
 use Rattle.entity_model.specs.Event.{event_cmp}
-use Rattle.entity_state.specs.State.{is_kept}
-use Rattle.entity_state.specs.Record.{blank}
-use Rattle.event_line.specs.declared.faults.LineCause.{LineCause}
-use Rattle.event_line.specs.declared.faults.LineCause.TheVariants.{LineLong}
-use Rattle.event_line.specs.Line.{delivery_of}
-use Rattle.replay_model.specs.Acceptance.{accepted, late}
-use Rattle.replay_model.specs.Entries.{has_open_revision}
-use Rattle.replay_model.specs.Play.{Played, played}
+use Rattle.entity_state.specs.{State.is_kept, Record.blank}
+use Rattle.event_line.specs.{declared.faults.LineCause.LineCause, declared.faults.LineCause.TheVariants.LineLong, Line.delivery_of}
+use Rattle.replay_model.specs.{Acceptance.accepted, Acceptance.late, Entries.has_open_revision, Play.Played, Play.played}
 use Rattle.replay_model.specs.Records.{Bytes, Records, is_settled, record_of}
-use Rattle.replay_model.specs.Replies.{TellsWhatIsThere, failed_events, source_replies}
-use Rattle.replay_model.specs.ReplayState.{ReplayState}
+use Rattle.replay_model.specs.{Replies.TellsWhatIsThere, Replies.failed_events, Replies.source_replies, ReplayState.ReplayState}
 use Rattle.replay_model.specs.Union.{triples_held}
-use Rattle.world.specs.Meaning.{meaning}
+use Rattle.fetched_pages.specs.Meaning.{meaning}
 use Rattle.world.proofs.Entries.{over_ids}
 use Rattle.arguments.specs.Options.{closes, max_bytes_of}
-use Rattle.session.specs.declared.status.Status.{Status}
-use Rattle.session.specs.declared.status.Status.TheVariants.{Ok as Ended, BadWords, BadLine, ReadFault, WriteFault, TooLong, StoreFull, OutOfMemory, BadSnapshot}
-use Rattle.session_laws.specs.Complete.{FindsDocument, IsStill, has_document, triples_in}
-use Rattle.session.specs.Headline.{Ending, Stopped}
-use Rattle.session.specs.Moment.{IsFirst, Moment, Run, horizon_at, start_of}
-use Rattle.session.specs.Course.{version_at}
-use Rattle.session.specs.Reading.{AreDeliveries, IsPastLimit, IsRefusedLine, deliveries_of, line_delivers, onto_deliveries}
-use Rattle.session.specs.Remapping.{held_triples}
-use Rattle.session.specs.Stop.{stop_of}
-use Rattle.session.specs.declared.stop.Stop.TheVariants.{StoreFull as RoomPassed}
-use Rattle.session.specs.Taking.{judgement, replies_there}
-use Rattle.session.proofs.Ends.{none_failed, none_named_first}
-use Rattle.session.proofs.FromNothing.{state_played}
-use Rattle.session_laws.proofs.Finding.{none_named}
-use Rattle.session_laws.proofs.Opening.{any_opened, settled_triples}
-use Rattle.session.proofs.Reading.{at_known}
-use Rattle.session.proofs.Versions.{all_held_by}
+use Rattle.run_model.specs.declared.status.Status.{Status}
+use Rattle.run_model.specs.declared.status.Status.TheVariants.{Ok as Ended, BadWords, BadLine, ReadFault, WriteFault, TooLong, StoreFull, OutOfMemory, BadSnapshot}
+use Rattle.run_model.specs.Headline.{Ending, Stopped}
+use Rattle.run_model.specs.Moment.{IsFirst, Moment, Run, horizon_at, start_of, up_to_marks, up_to_saves}
+use Rattle.run_model.specs.Course.{version_at}
+use Rattle.run_model.specs.Reading.{AreDeliveries, IsPastLimit, IsRefusedLine, deliveries_of, line_delivers, onto_deliveries}
+use Rattle.run_model.specs.{Remapping.held_triples, Stop.stop_of, declared.stop.Stop.TheVariants.StoreFull as RoomPassed}
+use Rattle.run_model.specs.Taking.{judgement, replies_there}
+use Rattle.session_laws.specs.Complete.{IsSaving, FindsDocument, IsStill, has_document, triples_in}
+use Rattle.run_model.proofs.{Ends.none_failed, Ends.none_named_first, FromNothing.state_played, Reading.at_known, Versions.all_held_by}
+use Rattle.session_laws.proofs.{Finding.none_named, Opening.any_opened, Opening.settled_triples}
 
 -- ---- the statuses
 
@@ -101,7 +85,7 @@ short_refused : (line : List ℕ) (cause : LineCause) → length line ≤ longes
 short_refused line cause short is = ap (λ b. cond b (delivery_of line) (Err LineLong)) (le-leb (length line) longest_line short) ∙ is
 
 -- an input of deliveries has no line that is refused
-none_refused : {G : Type 0} (limit : ℕ) (bytes : List ℕ) (ds before : List Delivery) (number : ℕ) (cause : LineCause) → AreDeliveries limit bytes ds → IsRefusedLine limit bytes before number cause → G
+pub none_refused : {G : Type 0} (limit : ℕ) (bytes : List ℕ) (ds before : List Delivery) (number : ℕ) (cause : LineCause) → AreDeliveries limit bytes ds → IsRefusedLine limit bytes before number cause → G
 none_refused {G} limit bytes ds before number cause are refused = ⊎_elim
     (λ bad. clash (ap deliveries_of bad.are_lines ∙ refused_among bad.before bad.line _ cause (short_refused bad.line cause bad.short bad.refused)))
     (λ long. clash (ap deliveries_of long.1.are_lines ∙ over_long_among long.1.before long.1.unread_bytes _ long.1.over))
@@ -110,8 +94,21 @@ none_refused {G} limit bytes ds before number cause are refused = ⊎_elim
     clash : deliveries_of (lines bytes) ≡ None → G
     clash none = let never : Some ds ≡ None = sym are.delivered ∙ none in cc
 
+none_passes : {A : Type 0} (xs : List A) → filter (λ x. false) xs ≡ []
+none_passes [] = refl
+none_passes (x ∷ xs) = none_passes xs
+
+-- a save on the way was asked for
+saves_some : (every : Option ℕ) (ds : List Delivery) (saves : List (List Delivery)) (last : List Delivery) → up_to_saves every ds ≡ saves ++ last ∷ [] → IsSome every
+saves_some (Some n) ds saves last due = refl
+saves_some None ds saves last due = absurd (by saves (sym (none_passes (up_to_marks ds)) ∙ due))
+  where
+    by : (s : List (List Delivery)) → [] ≡ s ++ last ∷ [] → ⊥
+    by [] never = cc
+    by (x ∷ s) never = cc
+
 module _ (run : Run) (before now : Moment) (bytes : List ℕ) (ds : List Delivery) (known : before.input.left ≡ Some bytes) (are : AreDeliveries (max_bytes_of run.choices) bytes ds)
-    (reads : IsStill before.input.faults now.input.faults) (writes : IsStill (start_of run before).output.faults now.stage.output.faults) (saves : closes run.choices ≡ false → IsStill before.snapshot.faults now.snapshot.faults) (room : Stopped RoomPassed run before now → ⊥) where
+    (reads : IsStill before.input.faults now.input.faults) (writes : IsStill (start_of run before).output.faults now.stage.output.faults) (saves : IsSaving run.choices → IsStill before.snapshot.faults now.snapshot.faults) (room : Stopped RoomPassed run before now → ⊥) where
   pub ends_well : (status : Status) → (status ≡ BadWords → ⊥) → IfSome (stop_of status) (λ stop. Stopped stop run before now) → (status ≡ Ended) ⊎ (status ≡ OutOfMemory)
   ends_well Ended understood stopped = inl refl
   ends_well BadWords understood stopped = absurd (understood refl)
@@ -119,7 +116,7 @@ module _ (run : Run) (before now : Moment) (bytes : List ℕ) (ds : List Deliver
       none_refused (max_bytes_of run.choices) bytes ds stopped.deliveries number cause are
       (at_known before.input.left bytes (λ b. IsRefusedLine (max_bytes_of run.choices) b stopped.deliveries number cause) known stopped.bad)
   ends_well ReadFault understood stopped = not_risen before.input.faults now.input.faults reads stopped.0
-  ends_well WriteFault understood stopped = ⊎_elim (λ out. not_risen (start_of run before).output.faults now.stage.output.faults writes out.0) (λ file. not_risen before.snapshot.faults now.snapshot.faults (saves file.1.saves) file.0) stopped
+  ends_well WriteFault understood stopped = ⊎_elim (λ out. not_risen (start_of run before).output.faults now.stage.output.faults writes out.0) (λ file. not_risen before.snapshot.faults now.snapshot.faults (saves (⊎_elim (λ unsaved. inl unsaved.saves) (λ stands. inr (saves_some run.choices.every stands.deliveries stands.saves stands.deliveries stands.due)) file.1)) file.0) stopped
   ends_well TooLong understood stopped =
       let past = at_known before.input.left bytes (λ b. max_bytes_of run.choices < length b) known (more before.input.left stopped.past) in
       absurd (omega (arith, past, are.within))

@@ -1,27 +1,20 @@
 -- Where no event is late and each page is found, nothing is named in the side output.
 use Rattle.std.proofs.Common.{◌≡◌, ℕ, Bool, true, false, cond, not, filter, ◌||◌, is_ok, List, [], ◌∷◌, ◌++◌, Option, None, Some, Result, Ok, Err, refl, sym, ◌∙◌, ap, subst, true≢false}
 use Rattle.std.specs.List.{cons_option}
-use Rattle.entity_model.specs.declared.id.EntityId.{EntityId}
-use Rattle.entity_model.specs.declared.event.Event.{Event}
+use Rattle.entity_model.specs.{declared.id.EntityId.EntityId, declared.event.Event.Event}
 use Rattle.entity_model.specs.Event.{event_cmp, event_cmp_total, event_cmp_same}
 use Rattle.delivery.specs.declared.Delivery.{Delivery}
 use Rattle.delivery.specs.declared.Delivery.TheVariants.{Event as Told, Watermark, Ask, Mapping, Match}
-use Rattle.entity_state.specs.State.{is_kept, state_after}
-use Rattle.entity_state.specs.Record.{held_revision, wants}
-use Rattle.entity_state.specs.declared.record.Record.{Record}
-use Rattle.side_output.specs.declared.entry.Cause.{Cause}
-use Rattle.side_output.specs.declared.entry.Entry.TheVariants.{Late}
+use Rattle.entity_state.specs.{State.is_kept, State.state_after, Record.held_revision, Record.wants, declared.record.Record.Record}
+use Rattle.side_output.specs.{declared.entry.Cause.Cause, declared.entry.Entry.TheVariants.Late}
 use Rattle.sorted_sets.specs.Rising.{has}
-use Rattle.sorted_sets.proofs.Bools.{and_left, and_right, or_true}
-use Rattle.sorted_sets.proofs.Filtering.{has-filter}
-use Rattle.sorted_sets.proofs.Rising.{has-append, has-sorted, has_itself}
-use Rattle.sorted_sets.proofs.Pushes.{by_pushes, first_empty}
+use Rattle.sorted_sets.proofs.{Bools.and_left, Bools.and_right, Bools.or_true, Filtering.has-filter}
+use Rattle.sorted_sets.proofs.{Rising.has-append, Rising.has-sorted, Rising.has_itself, Pushes.by_pushes, Pushes.first_empty}
 use Rattle.reorder_buffer.specs.Watermarks.{is_due}
 use Rattle.replay_model.specs.Acceptance.{accepted, due, is_accepted, is_late, late, mark}
 use Rattle.replay_model.specs.Fate.{is_of}
 use Rattle.replay_model.specs.Play.{Played, apply, apply_all, entries_after, entry_of, happens, newly_due, nothing_played, play, played, record_after}
-use Rattle.replay_model.specs.Records.{Bytes, record_of}
-use Rattle.replay_model.specs.Replies.{Judgement, reply_there, source_replies}
+use Rattle.replay_model.specs.{Records.Bytes, Records.record_of, Replies.Judgement, Replies.reply_there, Replies.source_replies}
 use Rattle.replay_model.proofs.Arrivals.{events_passing-push, play-push}
 use Rattle.replay_model.proofs.RecordOf.{entity_of, record-after, record_of-empty}
 use Rattle.drill_replay.proofs.Named.{kept_after}

@@ -1,43 +1,30 @@
 -- Where it is known what the source has, the terms of what is held and of a page that comes are among those of the pages that the
 -- input may bring.
 use Rattle.std.proofs.Common.{◌≡◌, refl, sym, subst, ◌∙◌, ⊎_elim, ℕ, zero, suc, ◌<◌, ◌≤◌, List, [], ◌∷◌, ◌++◌, append-nil, Option, None, Some, arith}
-use Rattle.std.specs.Option.{option_to_list}
-use Rattle.std.specs.Ordering.{eq_by_cmp}
+use Rattle.std.specs.{Option.option_to_list, Ordering.eq_by_cmp}
 use Rattle.sorted_sets.specs.Rising.{In}
-use Rattle.sorted_sets.proofs.Bools.{clash}
-use Rattle.sorted_sets.proofs.FirstPassing.{has-remove_key}
-use Rattle.delivery.specs.declared.Delivery.{Delivery}
-use Rattle.delivery.specs.declared.Delivery.TheVariants.{Mapping}
-use Rattle.entity_model.specs.declared.event.Event.{Event}
-use Rattle.entity_model.specs.declared.id.EntityId.{EntityId}
-use Rattle.entity_model.specs.declared.mapping.MappingVersion.{MappingVersion}
+use Rattle.sorted_sets.proofs.{Bools.clash, FirstPassing.has-remove_key}
+use Rattle.delivery.specs.{declared.Delivery.Delivery, declared.Delivery.TheVariants.Mapping}
+use Rattle.entity_model.specs.{declared.event.Event.Event, declared.id.EntityId.EntityId, declared.mapping.MappingVersion.MappingVersion}
 use Rattle.entity_model.specs.declared.mapping.MappingVersion.TheVariants.{One, Two}
 use Rattle.entity_model.specs.EntityId.{entity_cmp}
-use Rattle.replay_model.specs.Acceptance.{events}
-use Rattle.replay_model.specs.Explained.{revision_wanted}
-use Rattle.replay_model.specs.Play.{Replies}
-use Rattle.replay_model.specs.Records.{Bytes, Records}
-use Rattle.replay_model.specs.Replies.{failed_events}
-use Rattle.replay_model.specs.ReplayState.{following}
-use Rattle.replay_model.specs.Versions.{all_by}
+use Rattle.replay_model.specs.{Acceptance.events, Explained.revision_wanted, Play.Replies, Records.Bytes, Records.Records}
+use Rattle.replay_model.specs.{Replies.failed_events, ReplayState.following, Versions.all_by}
 use Rattle.triple_store.specs.Room.{distinct}
 use Rattle.world.specs.WorldState.{with_version_of}
 use Rattle.arguments.specs.Options.{max_bytes_of}
-use Rattle.session.specs.declared.stop.Stop.TheVariants.{StoreFull}
-use Rattle.session.specs.declared.stop.Halt.TheVariants.{Unapplied as NotApplied}
+use Rattle.run_model.specs.{declared.stop.Stop.TheVariants.StoreFull, declared.stop.Halt.TheVariants.Unapplied as NotApplied}
+use Rattle.run_model.specs.Headline.{StandsAtMapping, Stopped, StopsAtEnd, StopsWithin}
+use Rattle.run_model.specs.{Course.led_to, Course.version_at, Moment.IsFirst, Moment.Moment, Moment.Run, Moment.horizon_at, Moment.start_of}
+use Rattle.run_model.specs.Reading.{AreDeliveries}
+use Rattle.run_model.specs.Remapping.{HasNoRoom, IsFullOfStale, Mapped, mapped_by, next_stale_in, remapped_some}
+use Rattle.run_model.specs.Taking.{IsFull, entered_if_any, judgement, replies_there}
 use Rattle.term_pool.specs.declared.fault.PoolFault.TheVariants.{Full as NoRoom}
 use Rattle.drill_replay.specs.Told.{terms_there, versions_told}
 use Rattle.drill_replay.proofs.Fits.{ByTwoTold, fits}
-use Rattle.session.specs.Headline.{StandsAtMapping, Stopped, StopsAtEnd, StopsWithin}
-use Rattle.session.specs.Course.{led_to, version_at}
-use Rattle.session.proofs.FromNothing.{led_first, version_first}
-use Rattle.session.specs.Moment.{IsFirst, Moment, Run, horizon_at, start_of}
-use Rattle.session.specs.Reading.{AreDeliveries}
-use Rattle.session.specs.Remapping.{HasNoRoom, IsFullOfStale, Mapped, mapped_by, next_stale_in, remapped_some}
-use Rattle.session.specs.Taking.{IsFull, entered_if_any, judgement, replies_there}
-use Rattle.session_laws.proofs.Beginnings.{Begins, begins-all, begins-events, begins-fewer, begins-in_force, begins-mapping, first_begins}
 use Rattle.drill_replay.proofs.Named.{AreAmong, GivesThere, HoldsNamed, IsNamed, WorldNamed, end_named, entered_named, first_among, following_named, last_among, some_named, source_gives, wanted_named}
-use Rattle.session.proofs.Reading.{at_known}
+use Rattle.run_model.proofs.{FromNothing.led_first, FromNothing.version_first, Reading.at_known}
+use Rattle.session_laws.proofs.Beginnings.{Begins, begins-all, begins-events, begins-fewer, begins-in_force, begins-mapping, first_begins}
 
 -- ---- versions
 

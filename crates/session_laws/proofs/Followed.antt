@@ -1,42 +1,27 @@
 -- A follower of a stream has what was held at its end, and what is written of a stream are records.
 use Rattle.std.proofs.Common.{◌≡◌, sym, subst, ◌∙◌, ap, ℕ, ◌+◌, ◌<◌, ◌≤◌, ◌^◌, ◌==◌, Bool, true, false, cond, List, [], ◌∷◌, length, flat_map, append-nil, Option, None, Some, arith}
-use Rattle.rdf_term.specs.declared.triple.Triple.{Triple}
-use Rattle.rdf_term.specs.Order.{triple_cmp}
+use Rattle.rdf_term.specs.{declared.triple.Triple.Triple, Order.triple_cmp}
 use Rattle.sorted_sets.specs.Rising.{Each, In}
-use Rattle.wq_io.specs.Streams.{after_known}
-use Rattle.wq_io.specs.Lines.{line_feed, lines, onto_first_line}
+use Rattle.wq_io.specs.{Streams.after_known, Lines.line_feed, Lines.lines, Lines.onto_first_line}
 use Rattle.delivery.specs.declared.Delivery.{Delivery}
-use Rattle.replay_model.specs.Acceptance.{version_in_force}
-use Rattle.replay_model.specs.Play.{Played, Replies, played}
-use Rattle.replay_model.specs.ReplayState.{ReplayState}
-use Rattle.replay_model.specs.Union.{union}
-use Rattle.world.specs.Meaning.{meaning}
-use Rattle.replica.specs.declared.record.PatchRecord.{PatchRecord}
+use Rattle.replay_model.specs.{Acceptance.version_in_force, Play.Played, Play.Replies, Play.played, ReplayState.ReplayState, Union.union}
+use Rattle.fetched_pages.specs.Meaning.{meaning}
+use Rattle.replica.specs.{declared.record.PatchRecord.PatchRecord, Laws.IsGreatest, Record.record_lines, Replica.after}
 use Rattle.graph_routes.specs.declared.routes.Route.{Route}
-use Rattle.replica.specs.Laws.{IsGreatest}
-use Rattle.replica.specs.Record.{record_lines}
-use Rattle.replica.specs.Replica.{after}
 use Rattle.replica.proofs.Producers.{one_greatest}
 use Rattle.patch_stream.specs.Laws.{AreOfStream, HasWritableSides, IsChain}
 use Rattle.patch_stream.specs.Stream.{Step, changes, stream, stream_text}
-use Rattle.patch_stream.proofs.Bounds.{few_enough, few_so_far, numbers_of}
-use Rattle.patch_stream.proofs.Chains.{chain_of_play, chain_to_end}
-use Rattle.patch_stream.proofs.Readable.{all_of_stream, can_be_read}
-use Rattle.patch_stream.proofs.Streamed.{after_stream, all_there}
+use Rattle.patch_stream.proofs.{Bounds.few_enough, Bounds.few_so_far, Bounds.numbers_of, Chains.chain_of_play, Chains.chain_to_end}
+use Rattle.patch_stream.proofs.{Readable.all_of_stream, Readable.can_be_read, Streamed.after_stream, Streamed.all_there}
 use Rattle.arguments.specs.Options.{FollowChoices, closes, follow_max_bytes_of, max_bytes_of}
-use Rattle.following.specs.Following.{Ending as Followed, FollowMoment, replica_text}
-use Rattle.following.specs.Reading.{AreRecords}
-use Rattle.following.proofs.Complete.{found_records}
-use Rattle.following.proofs.Refusals.{one_list}
+use Rattle.following.specs.{Following.Ending as Followed, Following.FollowMoment, Following.replica_text, Reading.AreRecords}
+use Rattle.following.proofs.{Complete.found_records, Refusals.one_list}
 use Rattle.session_laws.specs.Complete.{steps_made}
-use Rattle.session.specs.Course.{course_ended, version_at}
-use Rattle.session.specs.Headline.{Ending}
-use Rattle.session.specs.Moment.{Beginning, IsFirst, Moment, Run, horizon_at, start_of}
-use Rattle.session.specs.Reading.{AreDeliveries}
-use Rattle.session.specs.Remapping.{held_triples}
-use Rattle.session.proofs.FromNothing.{state_played, steps_end_first, steps_first, version_first}
-use Rattle.session.proofs.Reading.{as_many, at_known}
-use Rattle.session.proofs.Versions.{all_held_by}
+use Rattle.run_model.specs.{Course.course_ended, Course.version_at, Headline.Ending}
+use Rattle.run_model.specs.Moment.{Beginning, IsFirst, Moment, Run, horizon_at, start_of}
+use Rattle.run_model.specs.{Reading.AreDeliveries, Remapping.held_triples}
+use Rattle.run_model.proofs.FromNothing.{state_played, steps_end_first, steps_first, version_first}
+use Rattle.run_model.proofs.{Reading.as_many, Reading.at_known, Versions.all_held_by}
 
 -- the triples of all that is held where a play leads
 abbrev last_of : Option (List Route) → Bool → List Delivery → Beginning → Replies → List Triple

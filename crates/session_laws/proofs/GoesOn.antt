@@ -2,31 +2,27 @@
 use Rattle.std.proofs.Common.{◌≡◌, refl, sym, subst, ◌∙◌, ap, ℕ, false, List, [], ◌++◌, Option, None, Some, IfSome, IsSome}
 use Rattle.wq_io.specs.Streams.{after_known}
 use Rattle.delivery.specs.declared.Delivery.{Delivery}
-use Rattle.replay_model.specs.Play.{Replies}
-use Rattle.replay_model.specs.Transcript.{said}
-use Rattle.world.specs.Meaning.{meaning}
+use Rattle.replay_model.specs.{Play.Replies, Transcript.said}
+use Rattle.fetched_pages.specs.Meaning.{meaning}
 use Rattle.patch_stream.specs.Stream.{changes, steps_of_play, stream_text}
-use Rattle.snapshot.specs.File.{saved_in_bytes}
-use Rattle.snapshot.specs.Whole.{Saved}
+use Rattle.snapshot.specs.{File.saved_in_bytes, Whole.Saved, declared.counts.Counts.Counts}
 use Rattle.world.specs.WorldState.{WorldState}
-use Rattle.checkpoint.specs.declared.numbers.Numbers.{Numbers}
-use Rattle.checkpoint.specs.Saved.{numbers_of as numbers_back, saved_of}
+use Rattle.checkpoint.specs.Saved.{saved_of}
 use Rattle.following.specs.Input.{Input}
-use Rattle.arguments.specs.Options.{closes}
-use Rattle.session.specs.declared.report.Report.TheVariants.{Answers, Changes}
-use Rattle.session.specs.declared.status.Status.{Status}
-use Rattle.session.specs.declared.status.Status.TheVariants.{Ok as Ended}
-use Rattle.session.specs.Headline.{Ending, HasFates, numbers_saved}
-use Rattle.session.specs.Moment.{Moment, Run, Stage, behind, start_in, start_of, sections_of, HasSaved, saved_at, snapshot_text}
-use Rattle.session.specs.OneRun.{CountsQuestions, HoldsAndNames, StandsAfter, printed_by, printed_in_all, said_from_start, state_ended, steps_ended, TwoRuns, all_deliveries, all_replies, first_deliveries, first_replies, horizon_of}
-use Rattle.session.specs.Resuming.{IsResumed, with_loaded}
-use Rattle.session.specs.Stop.{stop_of}
+use Rattle.arguments.specs.Options.{closes, max_terms_of}
+use Rattle.run_model.specs.declared.report.Report.TheVariants.{Answers, Changes}
+use Rattle.run_model.specs.{declared.status.Status.Status, declared.stop.Stop.Stop}
+use Rattle.run_model.specs.Headline.{Ending, HasFates, numbers_saved}
+use Rattle.run_model.specs.Moment.{Moment, Run, Stage, behind, start_in, start_of, sections_of, HasSaved, kept_last, saved_at, snapshot_text}
+use Rattle.run_model.specs.OneRun.{CountsQuestions, HoldsAndNames, StandsAfter, printed_by, printed_in_all, said_from_start, state_ended, steps_ended, TwoRuns, all_deliveries, all_replies, first_deliveries, first_replies, horizon_of}
+use Rattle.run_model.specs.{Resuming.IsResumed, Resuming.IsSnapshotOf, Resuming.with_loaded, Stop.stop_of}
+use Rattle.run_model.proofs.{Reading.at_known, Saves.last_kept}
 use Rattle.session_laws.proofs.OneRun.{fates_are, first_counts, first_patches, first_stands, holds_are, next_counts, next_patches, next_stands, prints_by, prints_rest, streams_rest, world_is}
 
 -- such bytes give back one world with one set of counts
-begins_at : (status : Status) (run : Run) (before now : Moment) (stage : Stage) (numbers : Numbers) (resumed : IsResumed (stop_of status) run before now) → IfSome before.resumed.left (λ bytes. saved_in_bytes bytes ≡ Some (saved_at stage numbers)) →
+pub begins_at : (stopped : Option Stop) (run : Run) (before now : Moment) (stage : Stage) (numbers : Counts) (resumed : IsResumed stopped run before now) → IfSome before.resumed.left (λ bytes. saved_in_bytes bytes ≡ Some (saved_at stage numbers)) →
     IsSome before.resumed.left → saved_of resumed.world resumed.numbers ≡ saved_at stage numbers
-begins_at status run before now stage numbers resumed saved told = by before.resumed.left told resumed.loaded.saved saved
+begins_at stopped run before now stage numbers resumed saved told = by before.resumed.left told resumed.loaded.saved saved
   where
     by : (left : Option (List ℕ)) → IsSome left → IfSome left (λ bytes. saved_in_bytes bytes ≡ Some (saved_of resumed.world resumed.numbers)) → IfSome left (λ bytes. saved_in_bytes bytes ≡ Some (saved_at stage numbers)) →
         saved_of resumed.world resumed.numbers ≡ saved_at stage numbers
@@ -35,35 +31,48 @@ begins_at status run before now stage numbers resumed saved told = by before.res
         let same : Some (saved_of resumed.world resumed.numbers) ≡ Some (saved_at stage numbers) = sym here ∙ there in
         cc
 
-stands_there : (run : Run) (before : Moment) (rest : Input) (world : WorldState) (counts : Numbers) (stage : Stage) (numbers : Numbers) → saved_of world counts ≡ saved_at stage numbers →
+stands_there : (run : Run) (before : Moment) (rest : Input) (world : WorldState) (counts : Counts) (stage : Stage) (numbers : Counts) → saved_of world counts ≡ saved_at stage numbers →
     (h : Option ℕ) (replies : Replies) (ds : List Delivery) → StandsAfter h replies ds (start_in numbers stage) → StandsAfter h replies ds (start_of (behind counts run) (with_loaded before rest world))
 stands_there run before rest world counts stage numbers same h replies ds stands = record {
   world = ap (λ (s : Saved). s.state) same ∙ stands.world;
   version = ap (λ (s : Saved). s.version) same ∙ stands.version;
 }
 
-counts_same : (world : WorldState) (counts : Numbers) (stage : Stage) (numbers : Numbers) → saved_of world counts ≡ saved_at stage numbers → counts ≡ numbers
-counts_same world counts stage numbers same = ap numbers_back same
+counts_same : (world : WorldState) (counts : Counts) (stage : Stage) (numbers : Counts) → saved_of world counts ≡ saved_at stage numbers → counts ≡ numbers
+counts_same world counts stage numbers same = ap (λ (s : Saved). s.counts) same
 
-pub begins_there : (status : Status) (run : Run) (before now : Moment) (stage : Stage) (numbers : Numbers) (bytes : List ℕ) (resumed : IsResumed (stop_of status) run before now) →
+pub begins_there : (status : Status) (run : Run) (before now : Moment) (stage : Stage) (numbers : Counts) (bytes : List ℕ) (resumed : IsResumed (stop_of status) run before now) →
     before.resumed.left ≡ Some bytes → saved_in_bytes bytes ≡ Some (saved_at stage numbers) →
     (h : Option ℕ) (replies : Replies) (ds : List Delivery) → StandsAfter h replies ds (start_in numbers stage) →
     StandsAfter h replies ds (start_of (behind resumed.numbers run) (with_loaded before resumed.rest resumed.world)) × (resumed.numbers ≡ numbers)
 begins_there status run before now stage numbers bytes resumed left saved h replies ds stands =
     let Told : Option (List ℕ) → Type 0 = λ o. IfSome o (λ b. saved_in_bytes b ≡ Some (saved_at stage numbers)) in
-    let same : saved_of resumed.world resumed.numbers ≡ saved_at stage numbers = begins_at status run before now stage numbers resumed (subst Told (sym left) saved) (subst (λ (o : Option (List ℕ)). IsSome o) (sym left) refl) in
+    let same : saved_of resumed.world resumed.numbers ≡ saved_at stage numbers = begins_at (stop_of status) run before now stage numbers resumed (subst Told (sym left) saved) (subst (λ (o : Option (List ℕ)). IsSome o) (sym left) refl) in
     (stands_there run before resumed.rest resumed.world resumed.numbers stage numbers same h replies ds stands, counts_same resumed.world resumed.numbers stage numbers same)
 
--- what a run saves is told where its file began empty
-pub saved_told : (run : Run) (before now : Moment) (ending : Ending run before now) → closes run.choices ≡ false → before.snapshot.bytes ≡ Some [] → IsSome now.snapshot.bytes
-saved_told run before now ending open_still empty =
+-- the same of a world that was loaded of such bytes
+pub loads_same : (limit : ℕ) (from : Option (List ℕ)) (world : WorldState) (counts : Counts) (stage : Stage) (numbers : Counts) (bytes : List ℕ) → IsSnapshotOf from limit world counts →
+    from ≡ Some bytes → saved_in_bytes bytes ≡ Some (saved_at stage numbers) → saved_of world counts ≡ saved_at stage numbers
+loads_same limit from world counts stage numbers bytes loaded left saved =
+    let here : saved_in_bytes bytes ≡ Some (saved_of world counts) = at_known from bytes (λ b. saved_in_bytes b ≡ Some (saved_of world counts)) left loaded.saved in
+    let alike : Some (saved_of world counts) ≡ Some (saved_at stage numbers) = sym here ∙ saved in
+    cc
+
+pub loads_there : (run : Run) (before : Moment) (rest : Input) (world : WorldState) (counts : Counts) (stage : Stage) (numbers : Counts) (bytes : List ℕ) → IsSnapshotOf before.resumed.left (max_terms_of run.choices) world counts →
+    before.resumed.left ≡ Some bytes → saved_in_bytes bytes ≡ Some (saved_at stage numbers) →
+    (h : Option ℕ) (replies : Replies) (ds : List Delivery) → StandsAfter h replies ds (start_in numbers stage) → StandsAfter h replies ds (start_of (behind counts run) (with_loaded before rest world)) × (counts ≡ numbers)
+loads_there run before rest world counts stage numbers bytes loaded left saved h replies ds stands =
+    let same = loads_same (max_terms_of run.choices) before.resumed.left world counts stage numbers bytes loaded left saved in
+    (stands_there run before rest world counts stage numbers same h replies ds stands, counts_same world counts stage numbers same)
+
+-- what a run saves is told where snapshots are
+pub saved_told : (run : Run) (before now : Moment) (ending : Ending run before now) → closes run.choices ≡ false → IsSome before.snapshot.kept → IsSome (kept_last now.snapshot)
+saved_told run before now ending open_still told =
     let text : List ℕ = snapshot_text (numbers_saved ending) now.stage in
-    let saved : now.snapshot.bytes ≡ after_known before.snapshot.bytes text = subst (λ closed. HasSaved closed text before.snapshot now.snapshot) open_still ending.saved in
-    subst (λ (o : Option (List ℕ)). IsSome o) (sym (saved ∙ ap (λ b. after_known b text) empty)) refl
+    subst (λ (o : Option (List ℕ)). IsSome o)
+    (sym (last_kept run (start_of run before) _ before.snapshot.kept ending.on_the_way now.snapshot text told ending.kept (subst (λ closed. HasSaved closed text ending.on_the_way now.snapshot.kept) open_still ending.saved))) refl
 
--- ---- two runs
-
-module _ (one two : Run) (before_one now_one before_two now_two : Moment) (runs : TwoRuns one two before_one now_one before_two now_two) (saved : IfSome now_one.snapshot.bytes (λ bytes. saved_in_bytes bytes ≡ Some (saved_at now_one.stage (numbers_saved runs.first)))) where
+module _ (one two : Run) (before_one now_one before_two now_two : Moment) (runs : TwoRuns one two before_one now_one before_two now_two) (saved : IfSome (kept_last now_one.snapshot) (λ bytes. saved_in_bytes bytes ≡ Some (saved_at now_one.stage (numbers_saved runs.first)))) where
   abbrev behind_one : Run
   behind_one = behind runs.second.numbers two
 
@@ -79,8 +88,8 @@ module _ (one two : Run) (before_one now_one before_two now_two : Moment) (runs 
   there : saved_of runs.second.world runs.second.numbers ≡ saved_at now_one.stage (numbers_saved runs.first)
   there =
       let Told : Option (List ℕ) → Type 0 = λ o. IfSome o (λ b. saved_in_bytes b ≡ Some (saved_at now_one.stage (numbers_saved runs.first))) in
-      begins_at Ended two before_two now_two now_one.stage (numbers_saved runs.first) runs.second (subst Told (sym runs.same) saved)
-      (subst (λ (o : Option (List ℕ)). IsSome o) (sym runs.same) (saved_told one before_one now_one runs.first runs.open_still runs.empty))
+      begins_at None two before_two now_two now_one.stage (numbers_saved runs.first) runs.second (subst Told (sym runs.same) saved)
+      (subst (λ (o : Option (List ℕ)). IsSome o) (sym runs.same) (saved_told one before_one now_one runs.first runs.open_still runs.told))
 
   stands : StandsAfter (horizon_of runs) (first_replies runs) (first_deliveries runs) (start_of behind_one loaded)
   stands = stands_there two before_two runs.second.rest runs.second.world runs.second.numbers now_one.stage (numbers_saved runs.first) there (horizon_of runs) (first_replies runs) (first_deliveries runs)
@@ -123,6 +132,6 @@ module _ (one two : Run) (before_one now_one before_two now_two : Moment) (runs 
       ≡ stream_text (steps_ended (closes two.choices) (horizon_of runs) (all_replies runs) (all_deliveries runs)))
   streamed_by_both one_changes two_changes =
       streams_rest (horizon_of runs) (first_replies runs) (first_deliveries runs) behind_one loaded now_two stands outcome two_changes
-      (ap (λ (n : Numbers). n.patches) numbers_are
+      (ap (λ (n : Counts). n.patches) numbers_are
       ∙ next_patches (horizon_of runs) (first_replies runs) [] one before_one now_one first_stood runs.first one_changes (first_patches (start_of one before_one) runs.is_first (first_replies runs))
       ∙ ap (λ closed. changes (steps_ended closed (horizon_of runs) (first_replies runs) (first_deliveries runs))) runs.open_still)

@@ -4,30 +4,26 @@ use Rattle.std.proofs.lemmas.List.Elements.{filter_map-append}
 use Rattle.wq_io.specs.Streams.{after_known}
 use Rattle.delivery.specs.declared.Delivery.{Delivery}
 use Rattle.delivery.specs.declared.Delivery.TheVariants.{Event as Told, Watermark, Ask, Mapping, Match}
-use Rattle.replay_model.specs.Acceptance.{late, version_in_force}
-use Rattle.replay_model.specs.Entries.{HoldsUnlessOpen, late_events}
+use Rattle.replay_model.specs.{Acceptance.late, Acceptance.version_in_force, Entries.HoldsUnlessOpen, Entries.late_events}
 use Rattle.replay_model.specs.Play.{Played, Replies, played}
 use Rattle.replay_model.specs.ReplayState.{ReplayState, after_end, after_mark, delivered, ended, following, following_to_end}
 use Rattle.replay_model.specs.Transcript.{Question, asks, closing_text, matches, pattern_of, question_of, said, shapes_of}
-use Rattle.replay_model.proofs.LateEntries.{late-played}
-use Rattle.replay_model.proofs.Settled.{Tells-played, settled-played}
+use Rattle.replay_model.specs.Versions.{all_by}
+use Rattle.replay_model.proofs.{LateEntries.late-played, Settled.Tells-played, Settled.settled-played}
 use Rattle.replay_parts.specs.Checkpoint.{Checkpoint, advanced, advanced_by, answer_at, checkpoint, said_from, version_after}
 use Rattle.replay_parts.proofs.TwoRuns.{checkpoint-two, following_to_end-two, said-two}
 use Rattle.graph_routes.specs.declared.routes.Route.{Route}
-use Rattle.replay_model.specs.Versions.{all_by}
-use Rattle.world.specs.Meaning.{meaning}
+use Rattle.fetched_pages.specs.Meaning.{meaning}
 use Rattle.patch_stream.specs.Stream.{Step, changes, steps_anew, steps_due, steps_of_play, stream_text}
-use Rattle.checkpoint.specs.declared.numbers.Numbers.{Numbers}
+use Rattle.snapshot.specs.declared.counts.Counts.{Counts}
 use Rattle.arguments.specs.Options.{closes}
-use Rattle.session.specs.declared.report.Report.TheVariants.{Answers, Changes}
-use Rattle.session.specs.Course.{along, state_along, steps_of_delivery, stream_text_from, version_since, answer_by, closing_by, said_by, all_said, course_ended, led_to, version_at}
-use Rattle.session.specs.Headline.{Ending, HasFates, course_of, numbers_saved}
-use Rattle.session.specs.Moment.{Beginning, IsFirst, Moment, Run, horizon_at, standing, start_in, start_of, sections_of, numbers_of}
-use Rattle.session.specs.OneRun.{CountsQuestions, HoldsAndNames, StandsAfter, printed_by, printed_in_all, replies_with, said_from_start, state_ended, steps_ended}
-use Rattle.session.specs.Remapping.{Mapped, mapped_by}
-use Rattle.session.specs.Report.{bytes_of}
-use Rattle.session.proofs.Along.{version-along}
-use Rattle.session.proofs.Ends.{fates}
+use Rattle.run_model.specs.declared.report.Report.TheVariants.{Answers, Changes}
+use Rattle.run_model.specs.Course.{along, state_along, steps_of_delivery, stream_text_from, version_since, answer_by, closing_by, said_by, all_said, course_ended, led_to, version_at}
+use Rattle.run_model.specs.Headline.{Ending, HasFates, course_of, numbers_saved}
+use Rattle.run_model.specs.Moment.{Beginning, IsFirst, Moment, Run, horizon_at, standing, start_in, start_of, sections_of, numbers_of}
+use Rattle.run_model.specs.OneRun.{CountsQuestions, HoldsAndNames, StandsAfter, printed_by, printed_in_all, replies_with, said_from_start, state_ended, steps_ended}
+use Rattle.run_model.specs.{Remapping.Mapped, Remapping.mapped_by, Report.bytes_of}
+use Rattle.run_model.proofs.{Along.version-along, Ends.fates}
 use Rattle.session_laws.proofs.SaidRuns.{said_start-two}
 use Rattle.session_laws.proofs.StreamRuns.{changes-append, steps-two, steps_to_end-two, stream-append}
 
@@ -36,18 +32,18 @@ pub first_stands : (start : Beginning) → IsFirst start → (replies : Replies)
 first_stands start first replies = record { world = first.world; version = first.mapping }
 
 pub first_counts : (start : Beginning) → IsFirst start → CountsQuestions [] start.numbered
-first_counts start first = record { asks_are = ap (λ (n : Numbers). n.asks) first.numbered; matches_are = ap (λ (n : Numbers). n.matches) first.numbered }
+first_counts start first = record { asks_are = ap (λ (n : Counts). n.asks) first.numbered; matches_are = ap (λ (n : Counts). n.matches) first.numbered }
 
 pub first_patches : (start : Beginning) → IsFirst start → (replies : Replies) → start.numbered.patches ≡ changes (steps_of_play (horizon_at start) replies [])
-first_patches start first replies = ap (λ (n : Numbers). n.patches) first.numbered
+first_patches start first replies = ap (λ (n : Counts). n.patches) first.numbered
 
 -- where deliveries lead depends on the state alone
-same_state : (replies : Replies) (c other : Checkpoint) → c.state ≡ other.state → (ds : List Delivery) → state_along replies c ds ≡ state_along replies other ds
+pub same_state : (replies : Replies) (c other : Checkpoint) → c.state ≡ other.state → (ds : List Delivery) → state_along replies c ds ≡ state_along replies other ds
 same_state replies c other same [] = same
 same_state replies c other same (d ∷ ds) = same_state replies (advanced replies c d) (advanced replies other d) (ap (λ w. delivered replies w d) same) ds
 
 -- and so do the steps, with the version
-steps_same : (replies : Replies) (c other : Checkpoint) → c.state ≡ other.state → c.version ≡ other.version → (ds : List Delivery) → along steps_of_delivery replies c ds ≡ along steps_of_delivery replies other ds
+pub steps_same : (replies : Replies) (c other : Checkpoint) → c.state ≡ other.state → c.version ≡ other.version → (ds : List Delivery) → along steps_of_delivery replies c ds ≡ along steps_of_delivery replies other ds
 steps_same replies c other state version [] = refl
 steps_same replies c other state version (d ∷ ds) = λ i.
     steps_at state version d i
@@ -69,13 +65,13 @@ said_same : (replies : Replies) (c : Checkpoint) (ds : List Delivery) → said_b
 said_same replies c [] = refl
 said_same replies c (d ∷ ds) = λ i. answer_same c (question_of d) i ++ said_same replies (advanced replies c d) ds i
 
-asks-append : (a b : List Delivery) → asks (a ++ b) ≡ asks a + asks b
+pub asks-append : (a b : List Delivery) → asks (a ++ b) ≡ asks a + asks b
 asks-append a b = ap length (filter_map-append pattern_of a b) ∙ length-append _ _
 
-matches-append : (a b : List Delivery) → matches (a ++ b) ≡ matches a + matches b
+pub matches-append : (a b : List Delivery) → matches (a ++ b) ≡ matches a + matches b
 matches-append a b = ap length (filter_map-append shapes_of a b) ∙ length-append _ _
 
-state_ended-played : (closed : Bool) (h : Option ℕ) (replies : Replies) (ds : List Delivery) → played h closed replies ds ≡ (state_ended closed h replies ds).played
+pub state_ended-played : (closed : Bool) (h : Option ℕ) (replies : Replies) (ds : List Delivery) → played h closed replies ds ≡ (state_ended closed h replies ds).played
 state_ended-played true h replies ds = refl
 state_ended-played false h replies ds = refl
 
@@ -207,6 +203,10 @@ module _ (h : Option ℕ) (first : Replies) (a : List Delivery) (run : Run) (bef
       where
         version_on : version_at b start ≡ (advanced_by second (checkpoint h first a) b).version
         version_on = version_is ∙ ap (λ (c : Checkpoint). c.version) (checkpoint-two h first second a b)
+
+    -- the steps of the run come behind those of the play
+    pub steps_together : steps_of_play h first a ++ made ≡ steps_ended (closes run.choices) h both (a ++ b)
+    steps_together = steps_are run.environment.routes (closes run.choices)
 
     pub streams_rest : (rest : List ℕ) × (now.stage.output.bytes ≡ after_known before.stage.output.bytes rest)
         × (stream_text (steps_of_play h first a) ++ rest ≡ stream_text (steps_ended (closes run.choices) h both (a ++ b)))

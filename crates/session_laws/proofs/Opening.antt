@@ -1,24 +1,16 @@
 -- What an open entry and a settled record say of what is there.
 use Rattle.std.proofs.Common.{◌≡◌, ℕ, Bool, true, false, cond, ◌&&◌, ◌||◌, ◌==◌, is_none, is_ok, List, [], ◌∷◌, Option, None, Some, refl, sym, ◌∙◌, ap, true≢false, eqb-true, unwrap_or}
-use Rattle.std.specs.Option.{option_map}
-use Rattle.std.specs.List.{list_any}
-use Rattle.entity_model.specs.declared.id.EntityId.{EntityId}
-use Rattle.entity_model.specs.declared.event.Event.{Event}
-use Rattle.entity_model.specs.declared.unfit.Unfit.{Unfit}
-use Rattle.entity_state.specs.declared.record.Held.{Held}
-use Rattle.entity_state.specs.declared.record.Record.{Record}
-use Rattle.entity_state.specs.declared.state.Mode.{Mode}
+use Rattle.std.specs.{Option.option_map, List.list_any}
+use Rattle.entity_model.specs.{declared.id.EntityId.EntityId, declared.event.Event.Event, declared.unfit.Unfit.Unfit}
+use Rattle.entity_state.specs.{declared.record.Held.Held, declared.record.Record.Record, declared.state.Mode.Mode}
 use Rattle.entity_state.specs.declared.state.Mode.TheVariants.{Unknown, Kept, Deleted}
-use Rattle.entity_state.specs.State.{is_kept}
-use Rattle.entity_state.specs.Record.{held_revision, is_held, lacks}
+use Rattle.entity_state.specs.{State.is_kept, Record.held_revision, Record.is_held, Record.lacks}
 use Rattle.side_output.specs.declared.entry.Cause.{Cause}
 use Rattle.side_output.specs.declared.entry.Cause.TheVariants.{Missing, Failed, Unfit as NoDocument}
-use Rattle.side_output.specs.declared.entry.Entry.{Entry}
-use Rattle.side_output.specs.declared.entry.Entry.TheVariants.{Late, Revision}
+use Rattle.side_output.specs.{declared.entry.Entry.Entry, declared.entry.Entry.TheVariants.Late, declared.entry.Entry.TheVariants.Revision}
 use Rattle.sorted_sets.specs.Rising.{Each}
 use Rattle.sorted_sets.proofs.Bools.{and_left, and_right}
-use Rattle.replay_model.specs.Entries.{is_open_by, is_revision_of}
-use Rattle.replay_model.specs.Fate.{is_of}
+use Rattle.replay_model.specs.{Entries.is_open_by, Entries.is_revision_of, Fate.is_of}
 use Rattle.replay_model.specs.Records.{Bytes, is_settled, settles_at}
 use Rattle.replay_model.specs.Replies.{HasUnfit, HoldsWhatIsThere, Judgement, TellsWhatIsThere, judged, reply_there}
 use Rattle.replay_model.specs.Union.{Meaning, triples_held}

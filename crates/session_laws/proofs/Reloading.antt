@@ -1,34 +1,27 @@
 -- What a run saved is no snapshot that a later run refuses.
-use Rattle.std.proofs.Common.{◌≡◌, refl, ◌⊎◌, inr, ⊎_elim, sym, subst, ◌∙◌, ap, ℕ, ◌<◌, ◌≤◌, false, List, [], ◌++◌, length, Option, None, Some, IfSome, MatchOption, arith}
-use Rattle.wq_io.specs.Streams.{after_known}
+use Rattle.std.proofs.Common.{◌≡◌, refl, ◌⊎◌, inr, ⊎_elim, sym, subst, ◌∙◌, ap, ℕ, ◌<◌, ◌≤◌, false, List, [], ◌++◌, length, Option, None, Some, IfSome, IsSome, MatchOption, arith}
 use Rattle.delivery.specs.declared.Delivery.{Delivery}
-use Rattle.replay_model.specs.Play.{Replies}
-use Rattle.replay_model.specs.ReplayState.{ReplayState, following}
-use Rattle.replay_model.specs.Versions.{all_by, meaning_by}
-use Rattle.snapshot.specs.File.{IsFitSaved, file_text, saved_in_bytes}
-use Rattle.snapshot.specs.Waiting.{IsAtRest}
-use Rattle.snapshot.specs.Whole.{Saved}
-use Rattle.world.specs.Meaning.{meaning}
-use Rattle.world.specs.Roomed.{room_with}
-use Rattle.world.specs.WorldState.{WorldState}
+use Rattle.replay_model.specs.{Play.Replies, ReplayState.ReplayState, ReplayState.following, Versions.all_by, Versions.meaning_by}
+use Rattle.snapshot.specs.{File.IsFitSaved, File.file_text, File.saved_in_bytes, Waiting.IsAtRest, Whole.Saved}
+use Rattle.fetched_pages.specs.Meaning.{meaning}
+use Rattle.world.specs.{Roomed.room_with, WorldState.WorldState}
 use Rattle.checkpoint.specs.declared.fault.LoadFault.{LoadFault}
 use Rattle.checkpoint.specs.declared.fault.LoadFault.TheVariants.{ReadFault as NotRead, TooLong as OverLength, BadLine, Full, OutOfMemory as LoadOutOfMemory}
-use Rattle.checkpoint.specs.Causes.{IsFileOverfull, IsNoSnapshot, longest_file}
-use Rattle.checkpoint.specs.Loading.{IsLoadable}
+use Rattle.checkpoint.specs.{Causes.IsFileOverfull, Causes.IsNoSnapshot, Causes.longest_file, Loading.IsLoadable}
 use Rattle.checkpoint.specs.Saved.{AreWithin, saved_of}
 use Rattle.arguments.specs.Options.{closes, max_terms_of}
-use Rattle.session.specs.declared.status.Status.{Status}
-use Rattle.session.specs.declared.status.Status.TheVariants.{Ok as Ended, BadWords, BadLine as LineRefused, ReadFault as ReadFailed, WriteFault as WriteFailed, TooLong as LimitPassed, StoreFull as RoomPassed, OutOfMemory as StatusOutOfMemory, BadSnapshot as SnapshotRefused}
-use Rattle.session.specs.declared.stop.Stop.{Stop}
-use Rattle.session.specs.declared.stop.Stop.TheVariants.{BadSnapshot, OutOfMemory, StoreFull}
+use Rattle.run_model.specs.declared.status.Status.{Status}
+use Rattle.run_model.specs.declared.status.Status.TheVariants.{Ok as Ended, BadWords, BadLine as LineRefused, ReadFault as ReadFailed, WriteFault as WriteFailed, TooLong as LimitPassed, StoreFull as RoomPassed, OutOfMemory as StatusOutOfMemory, BadSnapshot as SnapshotRefused}
+use Rattle.run_model.specs.declared.stop.Stop.{Stop}
+use Rattle.run_model.specs.declared.stop.Stop.TheVariants.{BadSnapshot, OutOfMemory, StoreFull}
+use Rattle.run_model.specs.Headline.{Ending, Stopped, numbers_saved}
+use Rattle.run_model.specs.Moment.{Moment, Run, Stage, behind, start_of, HasSaved, kept_last, saved_at}
+use Rattle.run_model.specs.OneRun.{StandsAfter, deliveries_of, replies_with}
+use Rattle.run_model.specs.Resuming.{AllowsHorizon, IsNotResumed, IsRefusedFor, IsResumed, ResumeEnding, with_loaded}
+use Rattle.run_model.specs.Stop.{stop_of, stop_of_load}
 use Rattle.session_laws.specs.Complete.{IsStill}
-use Rattle.session.specs.Headline.{Ending, Stopped, numbers_saved}
-use Rattle.session.specs.Moment.{Moment, Run, Stage, behind, start_of, HasSaved, saved_at}
-use Rattle.session.specs.OneRun.{StandsAfter, deliveries_of, replies_with}
-use Rattle.session.specs.Resuming.{AllowsHorizon, IsNotResumed, IsRefusedFor, IsResumed, ResumeEnding, with_loaded}
-use Rattle.session.specs.Stop.{stop_of, stop_of_load}
-use Rattle.session_laws.proofs.Complete.{not_risen}
-use Rattle.session_laws.proofs.OneRun.{holds_are, next_stands}
+use Rattle.run_model.proofs.Saves.{last_kept}
+use Rattle.session_laws.proofs.{Complete.not_risen, OneRun.holds_are, OneRun.next_stands}
 
 -- the world that a stage is, with room for so many terms
 abbrev pub world_in : ℕ → Stage → WorldState
@@ -69,11 +62,11 @@ module _ (h : Option ℕ) (earlier : Replies) (ds : List Delivery) (run : Run) (
   horizon_is : now.stage.world.buffer.horizon ≡ h
   horizon_is = ap (λ (w : ReplayState). w.buffer.horizon) world_is_next
 
-  -- what was written
-  pub saved_bytes : before.snapshot.bytes ≡ Some [] → now.snapshot.bytes ≡ Some (file_text saved)
-  saved_bytes empty =
-      let written : now.snapshot.bytes ≡ after_known before.snapshot.bytes (file_text saved) = subst (λ closed. HasSaved closed (file_text saved) before.snapshot now.snapshot) open_still ending.saved in
-      written ∙ ap (λ b. after_known b (file_text saved)) empty
+  -- what was kept last
+  pub saved_bytes : IsSome before.snapshot.kept → kept_last now.snapshot ≡ Some (file_text saved)
+  saved_bytes told =
+      last_kept run (start_of run before) _ before.snapshot.kept ending.on_the_way now.snapshot (file_text saved) told ending.kept
+      (subst (λ closed. HasSaved closed (file_text saved) ending.on_the_way now.snapshot.kept) open_still ending.saved)
 
   pub loadable : (limit : ℕ) → IsFitSaved saved → AreWithin (numbers_saved ending) → IsLoadable (world_in limit now.stage) (numbers_saved ending)
   loadable limit fit within = record {
@@ -86,9 +79,9 @@ module _ (h : Option ℕ) (earlier : Replies) (ds : List Delivery) (run : Run) (
     within = within;
   }
 
-  module _ (empty : before.snapshot.bytes ≡ Some []) (fit : IsFitSaved saved) (within : AreWithin (numbers_saved ending)) (later : Run) (then_before then_now : Moment) (same : then_before.resumed.left ≡ now.snapshot.bytes) where
+  module _ (told : IsSome before.snapshot.kept) (fit : IsFitSaved saved) (within : AreWithin (numbers_saved ending)) (later : Run) (then_before then_now : Moment) (same : then_before.resumed.left ≡ (kept_last now.snapshot)) where
     left_is : then_before.resumed.left ≡ Some (file_text saved)
-    left_is = same ∙ saved_bytes empty
+    left_is = same ∙ saved_bytes told
 
     -- what holds of the bytes that are read holds of those that were written
     at_bytes : (P : List ℕ → Type 0) → IfSome then_before.resumed.left P → P (file_text saved)
@@ -141,13 +134,13 @@ module _ (h : Option ℕ) (earlier : Replies) (ds : List Delivery) (run : Run) (
             why
 
     -- where none is refused, and there is room, the snapshot is loaded unless memory is refused
-    pub goes_on : IfSome now.snapshot.bytes (λ text. length text ≤ longest_file) → IsStill then_before.resumed.faults then_now.resumed.faults → (status : Status) →
+    pub goes_on : IfSome (kept_last now.snapshot) (λ text. length text ≤ longest_file) → IsStill then_before.resumed.faults then_now.resumed.faults → (status : Status) →
         ((n : ℕ) → stop_of status ≡ Some (BadSnapshot n) → ⊥) → (IsNotResumed (stop_of status) later then_before then_now → stop_of status ≡ Some StoreFull → ⊥) →
         (IsResumed (stop_of status) later then_before then_now → (status ≡ Ended) ⊎ (status ≡ StatusOutOfMemory)) → ResumeEnding (stop_of status) later then_before then_now → (status ≡ Ended) ⊎ (status ≡ StatusOutOfMemory)
     goes_on short still status lines room resumed ended = ⊎_elim (λ x. of_fault x x.fault x.is x.cause) resumed ended
       where
         within_length : length (file_text saved) ≤ longest_file
-        within_length = subst (λ (o : Option (List ℕ)). IfSome o (λ text. length text ≤ longest_file)) (saved_bytes empty) short
+        within_length = subst (λ (o : Option (List ℕ)). IfSome o (λ text. length text ≤ longest_file)) (saved_bytes told) short
 
         of_fault : IsNotResumed (stop_of status) later then_before then_now → (fault : LoadFault) → stop_of status ≡ Some (stop_of_load fault) →
             IsRefusedFor fault later.choices then_before.resumed.left then_before.resumed.faults then_now.resumed.faults → (status ≡ Ended) ⊎ (status ≡ StatusOutOfMemory)

@@ -2,17 +2,14 @@
 use Rattle.std.proofs.Common.{◌≡◌, refl, sym, ◌∙◌, ap, ℕ, List, [], ◌∷◌, ◌++◌, append_assoc, append-nil, Option}
 use Rattle.sorted_sets.proofs.Pushes.{by_pushes}
 use Rattle.delivery.specs.declared.Delivery.{Delivery}
-use Rattle.replay_model.specs.Acceptance.{mark}
-use Rattle.replay_model.specs.Play.{Replies}
-use Rattle.replay_model.specs.Transcript.{question_of}
+use Rattle.replay_model.specs.{Acceptance.mark, Play.Replies, Transcript.question_of}
 use Rattle.replay_model.proofs.Following.{waits}
 use Rattle.replay_parts.specs.Checkpoint.{advanced_by, checkpoint, checkpoint_at_start}
 use Rattle.replay_parts.proofs.GoingOn.{checkpoint-append}
 use Rattle.replay_parts.proofs.TwoRuns.{AgreeReached, AgreeWhere, both, both_first, both_second, checkpoint-waiting, checkpoint_first, following-reached, reached-push}
 use Rattle.graph_routes.specs.declared.routes.Route.{Route}
-use Rattle.session.specs.Course.{answer_by, answer_of_delivery, said_by}
-use Rattle.session.specs.OneRun.{said_from_start}
-use Rattle.session.proofs.Along.{along-push}
+use Rattle.run_model.specs.{Course.answer_by, Course.answer_of_delivery, Course.said_by, OneRun.said_from_start}
+use Rattle.run_model.proofs.Along.{along-push}
 
 module _ (routes : Option (List Route)) (h : Option ℕ) where
   -- one delivery more adds its answer

@@ -1,32 +1,24 @@
 -- The steps of two runs are those of one: a reply counts where the mark reaches its event.
 use Rattle.std.proofs.Common.{◌≡◌, refl, sym, ◌∙◌, ap, ℕ, ◌+◌, ℤ, Bool, true, false, cond, List, [], ◌∷◌, ◌++◌, append_assoc, append-nil, length, length-append, filter, flat_map, Option, arith}
-use Rattle.std.proofs.lemmas.List.Concat.{flat_map-append}
-use Rattle.std.proofs.lemmas.List.Elements.{filter-append}
+use Rattle.std.proofs.{lemmas.List.Concat.flat_map-append, lemmas.List.Elements.filter-append}
 use Rattle.rdf_term.specs.Order.{triple_cmp}
-use Rattle.sorted_sets.proofs.Filtering.{filter_swap, sorted-filter}
-use Rattle.sorted_sets.proofs.Pushes.{by_pushes}
+use Rattle.sorted_sets.proofs.{Filtering.filter_swap, Filtering.sorted-filter, Pushes.by_pushes}
 use Rattle.delivery.specs.declared.Delivery.{Delivery}
 use Rattle.delivery.specs.declared.Delivery.TheVariants.{Event as Told, Watermark, Ask, Mapping, Match}
-use Rattle.entity_model.specs.declared.event.Event.{Event}
-use Rattle.entity_model.specs.declared.mapping.MappingVersion.{MappingVersion}
+use Rattle.entity_model.specs.{declared.event.Event.Event, declared.mapping.MappingVersion.MappingVersion}
 use Rattle.entity_model.specs.Event.{event_cmp_same, event_cmp_total}
 use Rattle.reorder_buffer.specs.Watermarks.{greater, is_due, reached}
-use Rattle.replay_model.specs.Acceptance.{accepted, mark, version_in_force}
-use Rattle.replay_model.specs.Fate.{in_order}
-use Rattle.replay_model.specs.Play.{Played, Replies, apply, play}
-use Rattle.replay_model.specs.ReplayState.{after_end, following}
-use Rattle.replay_model.specs.Union.{union}
-use Rattle.replay_model.proofs.Deliveries.{mark-watermark}
-use Rattle.replay_model.proofs.Following.{newly_due-end, waits}
+use Rattle.replay_model.specs.{Acceptance.accepted, Acceptance.mark, Acceptance.version_in_force, Fate.in_order}
+use Rattle.replay_model.specs.{Play.Played, Play.Replies, Play.apply, Play.play, ReplayState.after_end, ReplayState.following, Union.union}
+use Rattle.replay_model.proofs.{Deliveries.mark-watermark, Following.newly_due-end, Following.waits}
 use Rattle.replay_parts.specs.Checkpoint.{Checkpoint, advanced_by, checkpoint, replies_of_runs}
 use Rattle.replay_parts.proofs.TwoRuns.{AgreeReached, AgreeWhere, apply-alike, both_first, both_second, checkpoint-two, checkpoint-waiting, checkpoint_first, following-reached, reached-push, waits_earlier}
-use Rattle.world.specs.Meaning.{meaning}
+use Rattle.fetched_pages.specs.Meaning.{meaning}
 use Rattle.replica.specs.Record.{record_text}
 use Rattle.patch_stream.specs.Stream.{Step, changes, is_change, numbered_from, step, steps_applied, steps_due, steps_of_play, steps_to_end, stream_text}
 use Rattle.patch_stream.proofs.Streams.{numbered-append}
-use Rattle.session.specs.Course.{along, steps_of_delivery, stream_text_from}
-use Rattle.session.proofs.Along.{along-push}
-use Rattle.session.proofs.FromNothing.{steps_grow}
+use Rattle.run_model.specs.Course.{along, steps_of_delivery, stream_text_from}
+use Rattle.run_model.proofs.{Along.along-push, FromNothing.steps_grow}
 
 module _ (others replies : Replies) where
   -- the steps of events that pass a test at which the replies agree

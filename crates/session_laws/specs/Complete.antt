@@ -1,17 +1,17 @@
 -- Definitions for the laws on runs without failures: a count that stands still, documents that are there, the triples of an entity, and the
 -- steps of a run.
-use Rattle.std.specs.Prelude.{◌≡◌, ℕ, ◌-◌, ◌^◌, ◌<◌, Bool, true, cond, List, [], Option, is_ok}
-use Rattle.entity_model.specs.declared.id.EntityId.{EntityId}
-use Rattle.entity_model.specs.declared.event.Event.{Event}
-use Rattle.entity_state.specs.declared.state.State.{State}
-use Rattle.entity_state.specs.State.{is_kept}
-use Rattle.replay_model.specs.Records.{Bytes}
-use Rattle.replay_model.specs.Replies.{Judgement, reply_there}
-use Rattle.replay_model.specs.Union.{Meaning}
+use Rattle.std.specs.Prelude.{◌≡◌, ◌⊎◌, ℕ, ◌-◌, ◌^◌, ◌<◌, Bool, true, false, IsSome, cond, List, [], Option, is_ok}
+use Rattle.entity_model.specs.{declared.id.EntityId.EntityId, declared.event.Event.Event}
+use Rattle.entity_state.specs.{declared.state.State.State, State.is_kept}
+use Rattle.replay_model.specs.{Records.Bytes, Replies.Judgement, Replies.reply_there, Union.Meaning}
 use Rattle.drill_replay.specs.Told.{keeps_page, triples_there}
 use Rattle.patch_stream.specs.Stream.{Step}
-use Rattle.session.specs.Headline.{Ending, course_of}
-use Rattle.session.specs.Moment.{Moment, Run, start_of}
+use Rattle.arguments.specs.Options.{Choices, closes}
+use Rattle.run_model.specs.{Headline.Ending, Headline.course_of, Moment.Moment, Moment.Run, Moment.start_of}
+
+-- a run of these choices saves its world, at the end or on the way
+abbrev pub IsSaving : Choices → Type 0
+IsSaving choices = (closes choices ≡ false) ⊎ IsSome choices.every
 
 -- a counter stayed the same and isn't saturated
 pub record IsStill (before now : ℕ) : Type 0 where

@@ -1,1 +1,5 @@
 pub mod Complete
+pub mod Killed
+pub mod Live
+pub mod Plans
+pub mod Reruns

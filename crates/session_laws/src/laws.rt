@@ -1,6 +1,6 @@
 // What follows from the contract of `run` if nothing goes wrong. Each law is the contract of a function that does nothing.
 
-ghost use Rattle.std.specs.Prelude.{◌≡◌, ◌<◌, ◌≤◌, ◌⊎◌, ◌^◌, ℕ, true, false, length, List, [], Option, None, Some, IfSome, ◌++◌};
+ghost use Rattle.std.specs.Prelude.{◌≡◌, ◌<◌, ◌≤◌, ◌⊎◌, ◌^◌, ℕ, true, false, length, List, [], Option, None, Some, IfSome, IsSome, ◌++◌};
 ghost use Rattle.std.specs.FinMap as map;
 ghost use Rattle.std.specs.List.{flat_map};
 ghost use Rattle.sorted_sets.specs.Rising.{Each, In, has, sorted};
@@ -12,8 +12,9 @@ ghost use Rattle.replay_model.specs.Acceptance.{accepted, late, version_in_force
 ghost use Rattle.replay_model.specs.Play.{Replies, fetches, fetches_to_end};
 ghost use Rattle.replay_model.specs.{ReplayState.ended, ReplayState.following, ReplayState.following_to_end, Transcript.said};
 ghost use Rattle.replay_model.specs.{Records.Bytes, Records.is_settled, Records.record_of, Versions.all_by, Versions.meaning_by};
-ghost use Rattle.world.specs.{Meaning.meaning, Roomed.room_with};
-ghost use Rattle.snapshot.specs.File.{IsFitSaved, saved_in_bytes};
+ghost use Rattle.fetched_pages.specs.Meaning.{meaning};
+ghost use Rattle.world.specs.Roomed.{room_with};
+ghost use Rattle.snapshot.specs.{File.IsFitSaved, File.saved_in_bytes, declared.counts.Counts.Counts};
 ghost use Rattle.triple_store.specs.Room.{distinct};
 ghost use Rattle.wq_io.specs.Streams.{after_known};
 ghost use Rattle.replica.specs.declared.record.PatchRecord.{PatchRecord};
@@ -22,19 +23,19 @@ ghost use Rattle.patch_stream.specs.Stream.{Step, changes, steps_of_play, steps_
 ghost use Rattle.graph_routes.specs.declared.routes.Route.{Route};
 ghost use Rattle.arguments.specs.Options.{FollowChoices, closes, follow_max_bytes_of, max_bytes_of, max_terms_of};
 ghost use Rattle.following.specs.{Following.Ending as Followed, Following.FollowMoment, Following.replica_text, Reading.AreRecords};
-ghost use Rattle.checkpoint.specs.{declared.numbers.Numbers.Numbers as TheNumbers, Causes.longest_file, Saved.AreWithin};
-ghost use Rattle.session.specs.declared.report.Report.TheVariants.{Answers, Changes};
-ghost use Rattle.session.specs.{declared.status.Status.Status, declared.stop.Stop.Stop};
-ghost use Rattle.session.specs.{Course.along, Course.fetches_of_delivery, Course.steps_of_delivery, Course.stream_text_from, Course.said_by};
-ghost use Rattle.session.specs.Course.{course_to_end, led_to, version_at};
-ghost use Rattle.session_laws.specs.Complete.{FindsDocument, IsStill, has_document, steps_made, triples_in};
-ghost use Rattle.session.specs.Headline.{Ending, HasFates, Stopped, numbers_saved};
-ghost use Rattle.session.specs.Moment.{Beginning, IsFirst, Moment, Run, Stage, behind, horizon_at, standing, start_in, start_of};
-ghost use Rattle.session.specs.OneRun.{CountsQuestions, HoldsAndNames, StandsAfter, TwoRuns, all_deliveries, all_replies, deliveries_of, first_deliveries, first_replies, horizon_of, printed_by, printed_in_all, replies_with, said_from_start, state_ended, steps_ended};
-ghost use Rattle.session.specs.Reading.{AreDeliveries};
-ghost use Rattle.session.specs.Resuming.{AllowsHorizon, IsNotResumed, IsResumed, ResumeEnding, with_loaded};
-ghost use Rattle.session.specs.{Moment.saved_at, Moment.sections_of, Stop.stop_of};
-ghost use Rattle.session.specs.{Remapping.IsFullOfStale, Remapping.held_triples, Remapping.mapped_by, Taking.IsFull, Taking.judgement};
+ghost use Rattle.checkpoint.specs.{Causes.longest_file, Saved.AreWithin};
+ghost use Rattle.run_model.specs.declared.report.Report.TheVariants.{Answers, Changes};
+ghost use Rattle.run_model.specs.{declared.status.Status.Status, declared.stop.Stop.Stop};
+ghost use Rattle.run_model.specs.Course.{along, fetches_of_delivery, steps_of_delivery, stream_text_from, said_by};
+ghost use Rattle.run_model.specs.Course.{course_to_end, led_to, version_at};
+ghost use Rattle.run_model.specs.Headline.{Ending, HasFates, Stopped, numbers_saved};
+ghost use Rattle.run_model.specs.Moment.{Beginning, IsFirst, Moment, Run, Stage, behind, horizon_at, standing, start_in, start_of};
+ghost use Rattle.run_model.specs.OneRun.{CountsQuestions, HoldsAndNames, StandsAfter, TwoRuns, all_deliveries, all_replies, deliveries_of, first_deliveries, first_replies, horizon_of, printed_by, printed_in_all, replies_with, said_from_start, state_ended, steps_ended};
+ghost use Rattle.run_model.specs.Reading.{AreDeliveries};
+ghost use Rattle.run_model.specs.Resuming.{AllowsHorizon, IsNotResumed, IsResumed, ResumeEnding, with_loaded};
+ghost use Rattle.run_model.specs.{Moment.kept_last, Moment.saved_at, Moment.sections_of, Stop.stop_of};
+ghost use Rattle.run_model.specs.{Remapping.IsFullOfStale, Remapping.held_triples, Remapping.mapped_by, Taking.IsFull, Taking.judgement};
+ghost use Rattle.session_laws.specs.Complete.{FindsDocument, IsSaving, IsStill, has_document, steps_made, triples_in};
 ghost use Rattle.drill_replay.specs.Told.{terms_there};
 
 use checkpoint_laws::no_line_of_a_saved_world_is_refused;
@@ -48,7 +49,7 @@ pub fn good_input_is_replayed()
         (status ≡ Status.BadWords → ⊥) → IfSome (stop_of status) (λ stop. Stopped stop run before now) →
         before.input.left ≡ Some bytes → AreDeliveries (max_bytes_of run.choices) bytes ds →
         IsStill before.input.faults now.input.faults → IsStill before.stage.output.faults now.stage.output.faults →
-        (closes run.choices ≡ false → IsStill before.snapshot.faults now.snapshot.faults) →
+        (IsSaving run.choices → IsStill before.snapshot.faults now.snapshot.faults) →
         (IsFull run.environment now.stage.world now.stage.mapped → ⊥) →
         (IsFullOfStale run.environment.limit now.stage.world.played.records now.stage.mapped → ⊥) →
         (status ≡ Status.Ok) ⊎ (status ≡ Status.OutOfMemory) }
@@ -71,7 +72,7 @@ pub fn fitting_input_is_replayed()
         IsFirst (start_of run before) → (status ≡ Status.BadWords → ⊥) → IfSome (stop_of status) (λ stop. Stopped stop run before now) →
         before.input.left ≡ Some bytes → AreDeliveries (max_bytes_of run.choices) bytes ds →
         IsStill before.input.faults now.input.faults → IsStill before.stage.output.faults now.stage.output.faults →
-        (closes run.choices ≡ false → IsStill before.snapshot.faults now.snapshot.faults) →
+        (IsSaving run.choices → IsStill before.snapshot.faults now.snapshot.faults) →
         run.environment.known ≡ Some contents → distinct (terms_there contents ds) ≤ run.environment.limit →
         (status ≡ Status.Ok) ⊎ (status ≡ Status.OutOfMemory) }
 {}
@@ -160,11 +161,11 @@ pub fn written_streams_are_records()
 /// 64 bits.
 pub fn a_saved_replay_is_read_back()
     ensures later { (h : Option ℕ) (earlier : Replies) (ds : List Delivery) (run : Run) (before now : Moment) → StandsAfter h earlier ds (start_of run before) → (ending : Ending run before now) →
-        closes run.choices ≡ false → before.snapshot.bytes ≡ Some [] → IsFitSaved (saved_at now.stage (numbers_saved ending)) →
-        IfSome now.snapshot.bytes (λ bytes. saved_in_bytes bytes ≡ Some (saved_at now.stage (numbers_saved ending))) }
-    ensures first { (run : Run) (before now : Moment) → IsFirst (start_of run before) → (ending : Ending run before now) → closes run.choices ≡ false → before.snapshot.bytes ≡ Some [] →
+        closes run.choices ≡ false → IsSome before.snapshot.kept → IsFitSaved (saved_at now.stage (numbers_saved ending)) →
+        IfSome (kept_last now.snapshot) (λ bytes. saved_in_bytes bytes ≡ Some (saved_at now.stage (numbers_saved ending))) }
+    ensures first { (run : Run) (before now : Moment) → IsFirst (start_of run before) → (ending : Ending run before now) → closes run.choices ≡ false → IsSome before.snapshot.kept →
         IsFitSaved (saved_at now.stage (numbers_saved ending)) →
-        IfSome now.snapshot.bytes (λ bytes. saved_in_bytes bytes ≡ Some (saved_at now.stage (numbers_saved ending))) }
+        IfSome (kept_last now.snapshot) (λ bytes. saved_in_bytes bytes ≡ Some (saved_at now.stage (numbers_saved ending))) }
 {
     replays_can_be_saved();
     snapshots_read_back();
@@ -214,7 +215,7 @@ pub fn first_runs_stand_after_nothing()
 
 /// A run that goes on from the bytes that another run saved begins where that one stood, with its counts.
 pub fn resumed_runs_begin_where_others_stood()
-    ensures { (status : Status) (run : Run) (before now : Moment) (stage : Stage) (numbers : TheNumbers) (bytes : List ℕ) → (resumed : IsResumed (stop_of status) run before now) →
+    ensures { (status : Status) (run : Run) (before now : Moment) (stage : Stage) (numbers : Counts) (bytes : List ℕ) → (resumed : IsResumed (stop_of status) run before now) →
         before.resumed.left ≡ Some bytes → saved_in_bytes bytes ≡ Some (saved_at stage numbers) →
         (h : Option ℕ) (replies : Replies) (ds : List Delivery) → StandsAfter h replies ds (start_in numbers stage) →
         StandsAfter h replies ds (start_of (behind resumed.numbers run) (with_loaded before resumed.rest resumed.world)) × (resumed.numbers ≡ numbers) }
@@ -224,12 +225,12 @@ pub fn resumed_runs_begin_where_others_stood()
 /// horizon, and lacks room only if there is none for what is held. The numbers have to be such that a run may go on with them.
 pub fn saved_worlds_are_gone_on_from()
     ensures lines { (h : Option ℕ) (earlier : Replies) (ds : List Delivery) (run : Run) (before now : Moment) → StandsAfter h earlier ds (start_of run before) → (ending : Ending run before now) →
-        closes run.choices ≡ false → before.snapshot.bytes ≡ Some [] → IsFitSaved (saved_at now.stage (numbers_saved ending)) → AreWithin (numbers_saved ending) →
-        (later : Run) (then_before then_now : Moment) → then_before.resumed.left ≡ now.snapshot.bytes → AllowsHorizon later.choices h →
+        closes run.choices ≡ false → IsSome before.snapshot.kept → IsFitSaved (saved_at now.stage (numbers_saved ending)) → AreWithin (numbers_saved ending) →
+        (later : Run) (then_before then_now : Moment) → then_before.resumed.left ≡ (kept_last now.snapshot) → AllowsHorizon later.choices h →
         (status : Status) → ResumeEnding (stop_of status) later then_before then_now → (n : ℕ) → stop_of status ≡ Some (Stop.BadSnapshot n) → ⊥ }
     ensures room { (h : Option ℕ) (earlier : Replies) (ds : List Delivery) (run : Run) (before now : Moment) → StandsAfter h earlier ds (start_of run before) → (ending : Ending run before now) →
-        closes run.choices ≡ false → before.snapshot.bytes ≡ Some [] → IsFitSaved (saved_at now.stage (numbers_saved ending)) → AreWithin (numbers_saved ending) →
-        (later : Run) (then_before then_now : Moment) → then_before.resumed.left ≡ now.snapshot.bytes →
+        closes run.choices ≡ false → IsSome before.snapshot.kept → IsFitSaved (saved_at now.stage (numbers_saved ending)) → AreWithin (numbers_saved ending) →
+        (later : Run) (then_before then_now : Moment) → then_before.resumed.left ≡ (kept_last now.snapshot) →
         (status : Status) → IsNotResumed (stop_of status) later then_before then_now → stop_of status ≡ Some Stop.StoreFull →
         max_terms_of later.choices < room_with (meaning_by meaning (all_by now.stage.mapped.version now.stage.world.played.records)) now.stage.world.played.records [] }
 {
@@ -244,15 +245,15 @@ pub fn saved_worlds_are_gone_on_from()
 /// on with them.
 pub fn good_input_goes_on_from_saved_worlds()
     ensures { (h : Option ℕ) (earlier : Replies) (ds : List Delivery) (run : Run) (before now : Moment) → StandsAfter h earlier ds (start_of run before) → (ending : Ending run before now) →
-        closes run.choices ≡ false → before.snapshot.bytes ≡ Some [] → IsFitSaved (saved_at now.stage (numbers_saved ending)) → AreWithin (numbers_saved ending) →
-        IfSome now.snapshot.bytes (λ text. length text ≤ longest_file) →
-        (later : Run) (then_before then_now : Moment) → then_before.resumed.left ≡ now.snapshot.bytes → AllowsHorizon later.choices h →
+        closes run.choices ≡ false → IsSome before.snapshot.kept → IsFitSaved (saved_at now.stage (numbers_saved ending)) → AreWithin (numbers_saved ending) →
+        IfSome (kept_last now.snapshot) (λ text. length text ≤ longest_file) →
+        (later : Run) (then_before then_now : Moment) → then_before.resumed.left ≡ (kept_last now.snapshot) → AllowsHorizon later.choices h →
         room_with (meaning_by meaning (all_by now.stage.mapped.version now.stage.world.played.records)) now.stage.world.played.records [] ≤ max_terms_of later.choices →
         (status : Status) → ResumeEnding (stop_of status) later then_before then_now → (status ≡ Status.BadWords → ⊥) →
         (bytes : List ℕ) (items : List Delivery) → then_before.input.left ≡ Some bytes → AreDeliveries (max_bytes_of later.choices) bytes items →
         IsStill then_before.resumed.faults then_now.resumed.faults → IsStill then_before.input.faults then_now.input.faults →
         IsStill then_before.stage.output.faults then_now.stage.output.faults →
-        (closes later.choices ≡ false → IsStill then_before.snapshot.faults then_now.snapshot.faults) →
+        (IsSaving later.choices → IsStill then_before.snapshot.faults then_now.snapshot.faults) →
         (IsFull later.environment then_now.stage.world then_now.stage.mapped → ⊥) →
         (IsFullOfStale later.environment.limit then_now.stage.world.played.records then_now.stage.mapped → ⊥) →
         (status ≡ Status.Ok) ⊎ (status ≡ Status.OutOfMemory) }

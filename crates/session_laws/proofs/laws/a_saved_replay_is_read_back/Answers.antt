@@ -1,10 +1,8 @@
 -- By the laws of the format: a replay of which nothing was closed is at rest.
 use Rattle.std.proofs.Common.{◌≡◌, sym, subst, IfSome, List, [], Option, Some, ℕ}
 use Rattle.snapshot.specs.File.{saved_in_bytes}
-use Rattle.session.specs.Headline.{numbers_saved}
-use Rattle.session.specs.Moment.{horizon_at, start_of, saved_at}
-use Rattle.session_laws.proofs.OneRun.{first_stands}
-use Rattle.session_laws.proofs.Reloading.{saved_bytes, saved_rests}
+use Rattle.run_model.specs.{Headline.numbers_saved, Moment.horizon_at, Moment.start_of, Moment.saved_at}
+use Rattle.session_laws.proofs.{OneRun.first_stands, Reloading.saved_bytes, Reloading.saved_rests}
 use Rattle.session_laws.proofs.laws.a_saved_replay_is_read_back.Goals as goal
 
 pub returns-clause-later : goal.returns-clause-later

@@ -1,5 +1,5 @@
 -- By one delivery after the other.
-use Rattle.session.proofs.FromNothing.{ended_first, fetches_end_first, fetches_first, led_first, said_by_first, said_first, steps_end_first, steps_first, stream_first, version_first}
+use Rattle.run_model.proofs.FromNothing.{ended_first, fetches_end_first, fetches_first, led_first, said_by_first, said_first, steps_end_first, steps_first, stream_first, version_first}
 use Rattle.session_laws.proofs.laws.first_runs_are_whole_replays.Goals as goal
 
 pub returns-clause-state : goal.returns-clause-state

@@ -1,6 +1,5 @@
 -- Each other status has a cause that is ruled out, and there is room.
-use Rattle.session_laws.proofs.Complete.{ends_well}
-use Rattle.session_laws.proofs.Fitting.{never_store_full}
+use Rattle.session_laws.proofs.{Complete.ends_well, Fitting.never_store_full}
 use Rattle.session_laws.proofs.laws.fitting_input_is_replayed.Goals as goal
 
 pub returns : goal.returns

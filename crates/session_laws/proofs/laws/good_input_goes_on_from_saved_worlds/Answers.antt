@@ -1,7 +1,6 @@
 -- The snapshot is loaded, and then the input is taken as a good one.
 use Rattle.std.proofs.Common.{arith}
-use Rattle.session.specs.Moment.{behind}
-use Rattle.session.specs.Resuming.{with_loaded}
+use Rattle.run_model.specs.{Moment.behind, Resuming.with_loaded}
 use Rattle.session_laws.proofs.Reloading.{goes_on, stopped_of}
 use Rattle.session_laws.proofs.laws.good_input_goes_on_from_saved_worlds.Goals as goal
 

@@ -1,6 +1,5 @@
 -- By the laws of the format and of what is loaded.
-use Rattle.session.specs.Headline.{numbers_saved}
-use Rattle.session.specs.Moment.{saved_at}
+use Rattle.run_model.specs.{Headline.numbers_saved, Moment.saved_at}
 use Rattle.session_laws.proofs.Reloading.{full_for_itself, none_refused, saved_rests, world_in}
 use Rattle.arguments.specs.Options.{max_terms_of}
 use Rattle.session_laws.proofs.laws.saved_worlds_are_gone_on_from.Goals as goal
