@@ -1,15 +1,14 @@
 // One run over memory.
 
 use anyhow::Result;
-use case_file::{Calls, Given, Page};
-use case_trial::{Left, Runner};
+use case_trial::{Given, Runner, Shown, show};
 use case_world::{owners, records, side};
-use rdf_term::{List, OutOfMemory, Text};
-use revisions::{MemoryRevisions, RevisionBytes};
+use checkpoint::MemorySnapshots;
+use rdf_term::{List, OutOfMemory};
+use revisions::MemoryRevisions;
 use session::{Ports, Status, run, status_number, status_text};
 use std::alloc::{AllocError, Global};
 use std::hash::RandomState;
-use std::mem;
 use world::World;
 use wq_io::{MemorySink, MemorySource};
 
@@ -20,29 +19,60 @@ pub struct MemoryRunner {
 }
 
 // The ports of a run over memory.
-type MemoryPorts = Ports<MemorySource, MemoryRevisions, MemorySink, MemorySink>;
+type MemoryPorts = Ports<MemorySource, MemoryRevisions, MemorySink, MemorySnapshots>;
 
 impl Runner for MemoryRunner {
-    fn run(&self, alloc: Global, given: &Given, asked: &[u8]) -> Result<Left> {
-        let mut ports = ports(alloc, given)?;
-        let left = run_over(alloc, self.keys, given, &mut ports, asked);
+    fn run(&self, alloc: Global, given: Given, asked: &[u8]) -> Result<Vec<Shown>> {
+        let (words, mut ports) = ports(alloc, given);
+        let shown = shown_by_run(alloc, self.keys, words.as_slice(), &mut ports, asked);
         drop(ports);
-        left
+        shown
     }
 }
 
-// Makes a run over the ports, and says what it left.
-fn run_over(
+// The words of a run, and the ports over what else it is given.
+fn ports(alloc: Global, given: Given) -> (Vec<String>, MemoryPorts) {
+    let Given {
+        words,
+        input,
+        resumed,
+        pages,
+        reads,
+        loads,
+        writes,
+        saves,
+        fetches,
+    } = given;
+    let ports = Ports {
+        events: MemorySource::new(input, reads.bytes.max(1), List::from_vec(reads.failing)),
+        resumed: MemorySource::new(resumed, loads.bytes.max(1), List::from_vec(loads.failing)),
+        revisions: MemoryRevisions::new(List::from_vec(pages), List::from_vec(fetches.failing)),
+        out: MemorySink::new(alloc, writes.bytes.max(1), List::from_vec(writes.failing)),
+        snapshot: MemorySnapshots::new(alloc, List::from_vec(saves.failing)),
+    };
+    (words, ports)
+}
+
+// Makes a run over the ports, and says what it shows.
+fn shown_by_run(
     alloc: Global,
     keys: RandomState,
-    given: &Given,
+    words: &[String],
     ports: &mut MemoryPorts,
     asked: &[u8],
-) -> Result<Left> {
-    let (status, world) = run_in_new_world(alloc, keys, given.words.as_slice(), ports)?;
-    let left = left(alloc, &status, &world, ports, asked);
+) -> Result<Vec<Shown>> {
+    let (status, world) = run_in_new_world(alloc, keys, words, ports)?;
+    let mut list = Vec::new(alloc);
+    let shown = show_run(alloc, &status, ports, &mut list);
+    let shown = shown.and_then(|()| show_world(alloc, &world, asked, &mut list));
     drop(world);
-    left
+    match shown {
+        Ok(()) => Ok(list),
+        Err(error) => {
+            drop(list);
+            Err(error)
+        }
+    }
 }
 
 // Makes the top call over a new world: how it ended, and the world that it left. Nothing else stands in this function, since the proof of
@@ -57,149 +87,53 @@ fn run_in_new_world(
     Ok(run(alloc, keys, words, ports, world))
 }
 
-// What a run left.
-fn left(
-    alloc: Global,
-    status: &Status,
-    world: &World,
-    ports: &MemoryPorts,
-    asked: &[u8],
-) -> Result<Left> {
-    let mut left = Left::new(alloc);
-    if let Err(error) = see_run(alloc, status, ports, &mut left) {
-        drop(left);
-        return Err(error.into());
-    }
-    if let Err(error) = see_world(alloc, world, asked, &mut left) {
-        drop(left);
-        return Err(error);
-    }
-    Ok(left)
-}
-
-// Sees how the run ended, and what was printed, saved and fetched.
-fn see_run(
+// Shows how the run ended, and what was printed, saved and fetched.
+fn show_run(
     alloc: Global,
     status: &Status,
     ports: &MemoryPorts,
-    left: &mut Left,
-) -> Result<(), OutOfMemory> {
-    left.status = status_line(alloc, status)?;
-    left.out = Vec::from_slice(alloc, ports.out.bytes())?;
-    left.saved = Vec::from_slice(alloc, ports.snapshot.bytes())?;
-    left.fetches = ports.revisions.fetches();
-    Ok(())
-}
-
-// Sees what the world has.
-fn see_world(alloc: Global, world: &World, asked: &[u8], left: &mut Left) -> Result<()> {
-    left.records = records(alloc, world)?;
-    left.side = side(alloc, world)?;
-    left.owners = owners(alloc, world, asked)?;
-    left.waiting = world.pending() as u64;
-    Ok(())
-}
-
-// The number of a status, and its text where it has one.
-fn status_line(alloc: Global, status: &Status) -> Result<String, OutOfMemory> {
+    list: &mut Vec<Shown>,
+) -> Result<()> {
     let number = status_number(status);
     let text = status_text(alloc, status)?;
-    let line = numbered(alloc, number, text.as_str());
-    Ok(line?)
+    let text = text.as_str();
+    let space = if text.is_empty() { "" } else { " " };
+    let line = format!(in alloc; "{number}{space}{text}")?;
+    show(alloc, "status", line.as_bytes(), list)?;
+    show(alloc, "out", ports.out.bytes(), list)?;
+    show_kept(alloc, ports.snapshot.kept(), list)?;
+    Ok(show_number(alloc, "fetches", ports.revisions.fetches(), list)?)
 }
 
-// A number, and the text behind it where there is one.
-fn numbered(alloc: Global, number: u8, text: &str) -> Result<String, AllocError> {
-    if text.is_empty() {
-        return format!(in alloc; "{number}");
+// Shows the snapshots that were kept, one behind the other.
+fn show_kept(alloc: Global, kept: &[List<u8>], list: &mut Vec<Shown>) -> Result<(), AllocError> {
+    let mut saved = Vec::new(alloc);
+    for snapshot in kept {
+        saved.extend_from_slice(snapshot.as_slice())?;
     }
-    format!(in alloc; "{number} {text}")
+    show(alloc, "saved", saved.as_slice(), list)
 }
 
-// The ports over what is given.
-fn ports(alloc: Global, given: &Given) -> Result<MemoryPorts, OutOfMemory> {
-    let mut ports = empty_ports(alloc);
-    let Ok(()) = fill_ports(alloc, given, &mut ports) else {
-        drop(ports);
-        return Err(OutOfMemory);
-    };
-    Ok(ports)
+// Shows a number.
+fn show_number(
+    alloc: Global,
+    name: &'static str,
+    number: u64,
+    list: &mut Vec<Shown>,
+) -> Result<(), AllocError> {
+    let number = format!(in alloc; "{number}")?;
+    show(alloc, name, number.as_bytes(), list)
 }
 
-// Ports over nothing, which others replace.
-fn empty_ports(alloc: Global) -> MemoryPorts {
-    Ports {
-        events: MemorySource::new(Vec::new(alloc), 1, List::new(alloc)),
-        revisions: MemoryRevisions::new(List::new(alloc), List::new(alloc)),
-        out: MemorySink::new(alloc, 1, List::new(alloc)),
-        snapshot: MemorySink::new(alloc, 1, List::new(alloc)),
-        resumed: MemorySource::new(Vec::new(alloc), 1, List::new(alloc)),
-    }
-}
-
-// Puts what is given into the ports.
-fn fill_ports(alloc: Global, given: &Given, ports: &mut MemoryPorts) -> Result<(), OutOfMemory> {
-    let events = source(alloc, given.input.as_slice(), &given.reads)?;
-    put(&mut ports.events, events);
-    let resumed = source(alloc, given.resumed.as_slice(), &given.loads)?;
-    put(&mut ports.resumed, resumed);
-    let revisions = revisions(alloc, given)?;
-    put(&mut ports.revisions, revisions);
-    let out = sink(alloc, &given.writes)?;
-    put(&mut ports.out, out);
-    let snapshot = sink(alloc, &given.saves)?;
-    put(&mut ports.snapshot, snapshot);
-    Ok(())
-}
-
-// Puts a port in the place of another, which is dropped.
-fn put<T: Drop>(place: &mut T, port: T) {
-    drop(mem::replace(place, port));
-}
-
-// The input, or the snapshot from which the run goes on.
-fn source(alloc: Global, bytes: &[u8], reads: &Calls) -> Result<MemorySource, OutOfMemory> {
-    let bytes = Vec::from_slice(alloc, bytes)?;
-    let failing = list(alloc, reads.failing.as_slice())?;
-    Ok(MemorySource::new(bytes, reads.bytes.max(1), failing))
-}
-
-// The pages.
-fn revisions(alloc: Global, given: &Given) -> Result<MemoryRevisions, OutOfMemory> {
-    let entries = entries(alloc, given.pages.as_slice())?;
-    let failing = list(alloc, given.failing_fetches.as_slice())?;
-    Ok(MemoryRevisions::new(entries, failing))
-}
-
-// Where the output goes, or the snapshot.
-fn sink(alloc: Global, writes: &Calls) -> Result<MemorySink, OutOfMemory> {
-    let failing = list(alloc, writes.failing.as_slice())?;
-    Ok(MemorySink::new(alloc, writes.bytes.max(1), failing))
-}
-
-// The numbers of calls that fail.
-fn list(alloc: Global, numbers: &[u64]) -> Result<List<u64>, OutOfMemory> {
-    let numbers = Vec::from_slice(alloc, numbers)?;
-    Ok(List::from_vec(numbers))
-}
-
-// The pages, each with memory of its own.
-fn entries(alloc: Global, pages: &[Page]) -> Result<List<RevisionBytes>, OutOfMemory> {
-    let mut entries = List::new(alloc);
-    for page in pages {
-        let entry = entry(alloc, page)?;
-        entries.push(entry)?;
-    }
-    Ok(entries)
-}
-
-// A page with memory of its own.
-fn entry(alloc: Global, page: &Page) -> Result<RevisionBytes, OutOfMemory> {
-    let folder = Text::new(alloc, page.folder.as_str())?;
-    let bytes = Vec::from_slice(alloc, page.bytes.as_slice())?;
-    Ok(RevisionBytes {
-        place: folder,
-        rev: page.rev,
-        bytes: List::from_vec(bytes),
-    })
+// Shows what the world has.
+fn show_world(alloc: Global, world: &World, asked: &[u8], list: &mut Vec<Shown>) -> Result<()> {
+    show(alloc, "records", records(alloc, world)?.as_bytes(), list)?;
+    show(alloc, "side", side(alloc, world)?.as_bytes(), list)?;
+    show(
+        alloc,
+        "owners",
+        owners(alloc, world, asked)?.as_bytes(),
+        list,
+    )?;
+    Ok(show_number(alloc, "waiting", world.pending() as u64, list)?)
 }

@@ -1,20 +1,22 @@
 // What the tests share: what was found is compared with what was wanted, and a row is taken apart.
 
+use anyhow::{Context, Result, bail};
 use rdf_term::{OutOfMemory, TripleSet, write_triple};
 use std::alloc::Global;
 use std::fmt::Debug;
-use std::process::Abort;
 use std::str;
-use std::test::Fail;
 
 // Checks what was found, and says of what it is.
-pub(crate) fn check<T: Copy + Debug + PartialEq>(rt: &impl Abort, found: T, want: T, of: &str) {
-    assert_eq!(rt; found, want, "of {of:?}");
+pub(crate) fn check<T: Copy + Debug + PartialEq>(found: T, want: T, of: &str) -> Result<()> {
+    if found == want {
+        return Ok(());
+    }
+    bail!("of {of:?}: {found:?} in place of {want:?}")
 }
 
 // Checks bytes that were written, which are to be this text.
-pub(crate) fn check_written(rt: &impl Abort, written: &[u8], want: &str) {
-    assert_eq!(rt; str::from_utf8(written), Ok(want));
+pub(crate) fn check_written(written: &[u8], want: &str) -> Result<()> {
+    check(str::from_utf8(written)?, want, "what was written")
 }
 
 // Writes each triple of the set as a line.
@@ -26,20 +28,15 @@ fn write_lines(set: &TripleSet, out: &mut Vec<u8>) -> Result<(), OutOfMemory> {
 }
 
 // Checks that the set has the lines.
-pub(crate) fn check_lines(
-    rt: &(impl Abort + Alloc<A = Global>),
-    set: TripleSet,
-    lines: &str,
-) -> Result<(), Fail> {
-    let mut out = Vec::new(rt.alloc());
+pub(crate) fn check_lines(alloc: Global, set: TripleSet, lines: &str) -> Result<()> {
+    let mut out = Vec::new(alloc);
     let written = write_lines(&set, &mut out);
     drop(set);
     written?;
-    check_written(rt, out.as_slice(), lines);
-    Ok(())
+    check_written(out.as_slice(), lines)
 }
 
 // The two parts of a row.
-pub(crate) fn halves<'a>(row: &'a str, between: &str) -> Result<(&'a str, &'a str), Fail> {
-    Ok(row.split_once(between).ok_or("a row")?)
+pub(crate) fn halves<'a>(row: &'a str, between: &str) -> Result<(&'a str, &'a str)> {
+    row.split_once(between).context("a row")
 }

@@ -4,14 +4,13 @@ ghost use Rattle.drill.specs.Drill.{IsSize};
 
 use crate::checks::{check, halves};
 use crate::folders::check_fetch;
+use anyhow::Result;
 use delivery::Delivery;
 use drill::{DrillRevisions, deliveries};
 use entity_json::{DocumentFault, document};
 use entity_model::{Document, EntityId, IdKind, Kind};
 use revisions::{NoRevision, Revisions};
 use std::alloc::Global;
-use std::process::Abort;
-use std::test::Fail;
 
 // The item with a number.
 fn item(number: u32) -> EntityId {
@@ -34,54 +33,48 @@ fn summary(delivery: &Delivery, id: EntityId) -> Option<(Option<Kind>, u64, i64)
 
 // Checks the summary of each delivery of the item.
 fn check_summaries(
-    rt: &impl Abort,
     number: u32,
     found: &[Delivery],
     want: &[(Option<Kind>, u64, i64)],
-) {
-    check(
-        rt,
-        (number, found.len()),
-        (number, want.len()),
-        "deliveries",
-    );
+) -> Result<()> {
+    check((number, found.len()), (number, want.len()), "deliveries")?;
     for (delivery, row) in found.iter().zip(want) {
         let summary = summary(delivery, item(number));
-        check(rt, (number, summary), (number, Some(*row)), "a delivery");
+        check((number, summary), (number, Some(*row)), "a delivery")?;
     }
-}
-
-// The item's deliveries are to be these.
-fn check_deliveries(
-    rt: &(impl Abort + AllocGlobal),
-    number: u32,
-    want: &[(Option<Kind>, u64, i64)],
-) -> Result<(), Fail>
-    requires { IsSize number }
-{
-    let list = deliveries(rt.alloc(), number)?;
-    check_summaries(rt, number, list.as_slice(), want);
-    drop(list);
     Ok(())
 }
 
-#[test]
-fn deliveries_of_items(rt: HostRuntime) -> Result<(), Fail> {
+// The item's deliveries are to be these.
+fn check_deliveries(alloc: Global, number: u32, want: &[(Option<Kind>, u64, i64)]) -> Result<()>
+    requires { IsSize number }
+{
+    let list = deliveries(alloc, number)?;
+    let checked = check_summaries(number, list.as_slice(), want);
+    drop(list);
+    checked
+}
+
+pub(crate) fn deliveries_of_items(alloc: Global) -> Result<()> {
     let later = (Some(Kind::Edit), 2, 2_000_000);
     let earlier = (Some(Kind::Edit), 1, 1_000_000);
-    check_deliveries(&rt, 1, &[later, earlier, later])?;
+    check_deliveries(alloc, 1, &[later, earlier, later])?;
 
     let later = (Some(Kind::Edit), 10, 10_000_000);
     let earlier = (Some(Kind::Edit), 9, 9_000_000);
     let deletion = (Some(Kind::Delete), 10, 10_000_000);
-    check_deliveries(&rt, 5, &[later, earlier, later, deletion])?;
+    check_deliveries(alloc, 5, &[later, earlier, later, deletion])?;
 
     let later = (Some(Kind::Edit), 20, 20_000_000);
     let earlier = (Some(Kind::Edit), 19, 19_000_000);
     let deletion = (Some(Kind::Delete), 20, 20_000_000);
     let watermark = (None, 0, 20_000_000);
     let late = (Some(Kind::Edit), 19, 17_000_000);
-    check_deliveries(&rt, 10, &[later, earlier, later, deletion, watermark, late])
+    check_deliveries(
+        alloc,
+        10,
+        &[later, earlier, later, deletion, watermark, late],
+    )
 }
 
 // The place of a page, which may be empty, its revision and the page, one row a line.
@@ -90,16 +83,15 @@ const PAGES: &str =
 Q1 2 {"type":"item","id":"Q1","labels":{"en":{"language":"en","value":"item 1"}},"claims":{"P1":[{"mainsnak":{"snaktype":"value","property":"P1","datavalue":{"type":"quantity","value":{"amount":"+1","unit":"1"}}},"id":"Q1$1","rank":"normal","references":[{"hash":"1","snaks":{"P2":[{"snaktype":"value","property":"P2","datavalue":{"type":"string","value":"source 1"}}]}}]}]}}
  20 {"type":"item","id":"Q10","labels":{"en":{"language":"en","value":"item 10"}},"claims":{"P1":[{"mainsnak":{"snaktype":"value","property":"P1","datavalue":{"type":"quantity","value":{"amount":"+3","unit":"1"}}},"id":"Q10$1","rank":"normal","references":[{"hash":"1","snaks":{"P2":[{"snaktype":"value","property":"P2","datavalue":{"type":"string","value":"source 1"}}]}}]}]}}"#;
 
-#[test]
-fn pages_of_revisions(rt: HostRuntime) -> Result<(), Fail> {
+pub(crate) fn pages_of_revisions(alloc: Global) -> Result<()> {
     let mut revisions = DrillRevisions::new(10);
     for row in PAGES.lines() {
         let (place, row) = halves(row, " ")?;
         let (rev, page) = halves(row, " ")?;
-        check_fetch(&rt, &mut revisions, place, rev.parse()?, Ok(page));
+        check_fetch(alloc, &mut revisions, place, rev.parse()?, Ok(page))?;
     }
     for (place, rev) in [("Q1", 0), ("Q10", 21), ("Q1", u64::MAX)] {
-        check_fetch(&rt, &mut revisions, place, rev, Err(NoRevision::Missing));
+        check_fetch(alloc, &mut revisions, place, rev, Err(NoRevision::Missing))?;
     }
     Ok(())
 }
@@ -125,22 +117,20 @@ fn counts_of_page(
 
 // Checks that a revision of the item's page has one label and so many statements.
 fn check_page(
-    rt: &(impl Abort + AllocGlobal),
+    alloc: Global,
     revisions: &mut DrillRevisions,
     rev: u64,
     statements: usize,
-) -> Result<(), Fail> {
-    let page = revisions.fetch(rt.alloc(), "Q1", rev)?;
-    let found = counts_of_page(rt.alloc(), page.as_slice());
+) -> Result<()> {
+    let page = revisions.fetch(alloc, "Q1", rev)?;
+    let found = counts_of_page(alloc, page.as_slice());
     drop(page);
     let want = Some((item(1), 1, statements));
-    check(rt, (rev, found?), (rev, want), "Q1");
-    Ok(())
+    check((rev, found?), (rev, want), "Q1")
 }
 
-#[test]
-fn pages_are_documents(rt: HostRuntime) -> Result<(), Fail> {
+pub(crate) fn pages_are_documents(alloc: Global) -> Result<()> {
     let mut revisions = DrillRevisions::new(1);
-    check_page(&rt, &mut revisions, 1, 0)?;
-    check_page(&rt, &mut revisions, 2, 1)
+    check_page(alloc, &mut revisions, 1, 0)?;
+    check_page(alloc, &mut revisions, 2, 1)
 }

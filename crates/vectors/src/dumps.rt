@@ -4,35 +4,29 @@ ghost use Rattle.entity_model.specs.Document.{IsDocumentOf};
 
 use crate::checks::{check, check_lines, halves};
 use crate::stores::triple_from;
+use anyhow::{Context, Result, bail};
 use entity_json::document;
 use entity_model::{Document, EntityId, MappingVersion};
 use entity_rdf::{direct_texts, direct_triples, dump_triples};
 use munger::munge;
 use rdf_term::{List, Term, Triple, TripleSet};
 use std::alloc::Global;
-use std::process::Abort;
 use std::str;
-use std::test::Fail;
 use term_reading::read_term;
 use triple_sink::Setting;
 use triple_texts::{TripleText, TripleTexts};
 
 // Checks the lines of the dump of an entity at revision 5.
-fn check_dump(
-    rt: &(impl Abort + Alloc<A = Global>),
-    id: EntityId,
-    document: Document,
-    want: &str,
-) -> Result<(), Fail>
+fn check_dump(alloc: Global, id: EntityId, document: Document, want: &str) -> Result<()>
     requires { IsDocumentOf id document }
 {
     let setting = Setting {
-        alloc: rt.alloc(),
+        alloc,
         version: MappingVersion::One,
     };
     let dump = dump_triples(setting, id, 5, &document);
     drop(document);
-    check_lines(rt, dump?, want)
+    check_lines(alloc, dump?, want)
 }
 
 // All that the page of Q1 says where it has one label.
@@ -51,13 +45,12 @@ const ITEM: &str = "\
 <https://www.wikidata.org/wiki/Special:EntityData/Q1> <http://www.w3.org/1999/02/22-rdf-syntax-ns#type> <http://schema.org/Dataset> .
 ";
 
-#[test]
-fn dump_of_an_item(rt: HostRuntime) -> Result<(), Fail> {
-    let id = EntityId::read("Q1").ok_or("an id")?;
+pub(crate) fn dump_of_an_item(alloc: Global) -> Result<()> {
+    let id = EntityId::read("Q1").context("an id")?;
     let page = r#"{"type":"item","id":"Q1","labels":{"en":{"language":"en","value":"a"}}}"#;
-    match document(rt.alloc(), id, page.as_bytes()) {
-        Ok(document) => check_dump(&rt, id, document, ITEM),
-        Err(_) => Err("a document".into()),
+    match document(alloc, id, page.as_bytes()) {
+        Ok(document) => check_dump(alloc, id, document, ITEM),
+        Err(_) => bail!("a document"),
     }
 }
 
@@ -162,21 +155,12 @@ fn is_page_made_directly(setting: Setting, id: &str, page: &str) -> Option<bool>
     }
 }
 
-#[test]
-fn what_is_kept_is_made_without_the_dump(rt: HostRuntime) -> Result<(), Fail> {
+pub(crate) fn what_is_kept_is_made_without_the_dump(alloc: Global) -> Result<()> {
     for line in PAGES.lines() {
         let (id, page) = halves(line, " ")?;
         for version in [MappingVersion::One, MappingVersion::Two] {
-            let setting = Setting {
-                alloc: rt.alloc(),
-                version,
-            };
-            check(
-                &rt,
-                is_page_made_directly(setting, id, page),
-                Some(true),
-                line,
-            );
+            let setting = Setting { alloc, version };
+            check(is_page_made_directly(setting, id, page), Some(true), line)?;
         }
     }
     Ok(())

@@ -3,10 +3,10 @@
 ghost use Rattle.std.specs.Prelude.{◌≡◌, false};
 
 use crate::checks::check;
+use anyhow::Result;
 use entity_model::{EntityId, Event, IdKind, Kind};
 use reorder_buffer::{Buffer, Taken};
-use std::process::Abort;
-use std::test::Fail;
+use std::alloc::Global;
 
 fn edit(time: i64, rev: u64) -> Event {
     Event {
@@ -21,41 +21,37 @@ fn edit(time: i64, rev: u64) -> Event {
 }
 
 // Takes an event, which is to be answered so.
-fn take(rt: &impl Abort, buffer: &mut Buffer, event: Event, answer: Taken) -> Result<(), Fail>
+fn take(buffer: &mut Buffer, event: Event, answer: Taken) -> Result<()>
     requires { buffer.old.closed ≡ false }
     ensures { buffer.new.closed ≡ false }
 {
     let taken = buffer.take(event)?;
-    assert_eq!(rt; taken, answer, "{event:?}");
-    Ok(())
+    check(taken, answer, "an event")
 }
 
 // Raises the floor of a buffer with a horizon of 0 over what it remembers.
-fn check_floor(rt: &impl Abort, buffer: &mut Buffer) -> Result<(), Fail>
+fn check_floor(buffer: &mut Buffer) -> Result<()>
     requires { buffer.old.closed ≡ false }
 {
-    take(rt, buffer, edit(1, 1), Taken::New)?;
-    take(rt, buffer, edit(2, 2), Taken::New)?;
-    check(rt, buffer.remembered(), 2, "two events");
+    take(buffer, edit(1, 1), Taken::New)?;
+    take(buffer, edit(2, 2), Taken::New)?;
+    check(buffer.remembered(), 2, "two events")?;
 
     buffer.raise(2);
     check(
-        rt,
         buffer.remembered(),
         1,
         "two events, of which one is below the floor",
-    );
-    take(rt, buffer, edit(2, 2), Taken::Repeat)?;
-    take(rt, buffer, edit(1, 1), Taken::Late)?;
-    check(rt, buffer.remembered(), 1, "both events again");
-    Ok(())
+    )?;
+    take(buffer, edit(2, 2), Taken::Repeat)?;
+    take(buffer, edit(1, 1), Taken::Late)?;
+    check(buffer.remembered(), 1, "both events again")
 }
 
-#[test]
-fn what_is_below_the_floor_is_forgotten(rt: HostRuntime) -> Result<(), Fail> {
-    let mut buffer = Buffer::new(rt.alloc())?;
+pub(crate) fn what_is_below_the_floor_is_forgotten(alloc: Global) -> Result<()> {
+    let mut buffer = Buffer::new(alloc)?;
     buffer.set_horizon(0);
-    let checked = check_floor(&rt, &mut buffer);
+    let checked = check_floor(&mut buffer);
     drop(buffer);
     checked
 }

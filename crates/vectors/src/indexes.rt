@@ -3,14 +3,13 @@
 ghost use Rattle.std.specs.Prelude.{◌≡◌, ◌<◌};
 
 use crate::checks::{check, halves};
+use anyhow::Result;
 use block_index::BlockIndex;
 use comparison_steps::Steps;
 use slot_keys::Key;
 use std::alloc::Global;
 use std::marker::Brand;
-use std::process::Abort;
 use std::sync::ledger::{Blank, Ledger};
-use std::test::Fail;
 
 // A number comes (`+`) or goes (`-`), whether the set is another one then, and what it has of the numbers from 1 to 2.
 const CALLS: &str = "+ 3 true |
@@ -39,7 +38,7 @@ fn call<L: Ledger>(
     sign: &str,
     number: u32,
     steps: &mut Steps<L>,
-) -> Result<bool, Fail> {
+) -> Result<bool> {
     if sign == "+" {
         return Ok(index.insert(key(number), steps)?);
     }
@@ -47,69 +46,61 @@ fn call<L: Ledger>(
 }
 
 // Checks the numbers of the keys.
-fn check_numbers(rt: &impl Abort, found: &[Key], numbers: &str) -> Result<(), Fail> {
-    check(rt, found.len(), numbers.split_whitespace().count(), numbers);
+fn check_numbers(found: &[Key], numbers: &str) -> Result<()> {
+    check(found.len(), numbers.split_whitespace().count(), numbers)?;
     for (key, number) in found.iter().zip(numbers.split_whitespace()) {
-        check(rt, key.second, number.parse::<u32>()?, numbers);
+        check(key.second, number.parse::<u32>()?, numbers)?;
     }
     Ok(())
 }
 
 // Checks the numbers from 1 to 2.
 fn check_range<L: Ledger>(
-    rt: &impl Abort,
     index: &BlockIndex<Key>,
     numbers: &str,
     steps: &mut Steps<L>,
-) -> Result<(), Fail> {
+) -> Result<()> {
     let found = index.range(key(1), key(2), steps)?;
-    let checked = check_numbers(rt, found.as_slice(), numbers);
+    let checked = check_numbers(found.as_slice(), numbers);
     drop(found);
     checked
 }
 
 // Makes a call, and checks what it answers and leaves.
 fn check_call<L: Ledger>(
-    rt: &impl Abort,
     index: &mut BlockIndex<Key>,
     row: &str,
     steps: &mut Steps<L>,
-) -> Result<(), Fail> {
+) -> Result<()> {
     let (sign, rest) = halves(row, " ")?;
     let (number, rest) = halves(rest, " ")?;
     let (answer, numbers) = halves(rest, " |")?;
     let changed = call(index, sign, number.parse()?, steps)?;
-    check(rt, changed, answer == "true", row);
-    check_range(rt, index, numbers, steps)
+    check(changed, answer == "true", row)?;
+    check_range(index, numbers, steps)
 }
 
 // Makes all calls in turn.
-fn make_calls<L: Ledger>(
-    rt: &impl Abort,
-    index: &mut BlockIndex<Key>,
-    steps: &mut Steps<L>,
-) -> Result<(), Fail> {
+fn make_calls<L: Ledger>(index: &mut BlockIndex<Key>, steps: &mut Steps<L>) -> Result<()> {
     for row in CALLS.lines() {
-        check_call(rt, index, row, steps)?;
+        check_call(index, row, steps)?;
     }
-    assert_eq!(rt; (index.len(), index.blocks()), (0, 0));
-    Ok(())
+    check((index.len(), index.blocks()), (0, 0), "what is left")
 }
 
 // Makes all calls in turn at a new set.
-fn check_calls<L: Ledger>(rt: &(impl Abort + Alloc<A = Global>), blank: Blank) -> Result<(), Fail>
+fn check_calls<L: Ledger>(alloc: Global, blank: Blank) -> Result<()>
     requires name { blank.name ≡ L.name }
     requires parts { blank.parts ≡ L.parts }
     requires some { 0 < blank.parts }
 {
     let mut steps = Steps::<L>::new(blank);
-    let mut index = BlockIndex::new(rt.alloc());
-    let checked = make_calls(rt, &mut index, &mut steps);
+    let mut index = BlockIndex::new(alloc);
+    let checked = make_calls(&mut index, &mut steps);
     drop(index);
     checked
 }
 
-#[test]
-fn keys_come_and_go(rt: HostRuntime) -> Result<(), Fail> {
-    check_calls::<Brand>(&rt, Blank::new(1))
+pub(crate) fn keys_come_and_go(alloc: Global) -> Result<()> {
+    check_calls::<Brand>(alloc, Blank::new(1))
 }

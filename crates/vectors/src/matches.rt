@@ -7,12 +7,11 @@ ghost use Rattle.rdf_term.specs.Fit.{HasFitAndShortTerms};
 use crate::checks::{check, halves};
 use crate::pools::term_of;
 use crate::stores::triple_of;
+use anyhow::{Context, Result};
 use graph_match::{Place, Query, Rows, Shape, StoreRows, solve};
 use rdf_term::{List, Term, Text, Triple, TripleSet, write_term};
 use std::alloc::Global;
 use std::hash::RandomState;
-use std::process::Abort;
-use std::test::Fail;
 use triple_patch::Patch;
 use triple_store::{Store, Uncounted};
 
@@ -205,21 +204,17 @@ fn has_bindings(
 }
 
 // Checks the bindings of each query over a set and over a store.
-fn check_queries(
-    rt: &(impl Abort + Alloc<A = Global>),
-    set: &TripleSet,
-    store: &Store,
-) -> Result<(), Fail> {
+fn check_queries(alloc: Global, set: &TripleSet, store: &Store) -> Result<()> {
     for line in QUERIES.lines() {
         let (shapes, expected) = halves(line, " =")?;
-        let found = has_bindings(rt.alloc(), set, store, shapes, expected);
-        check(rt, found, Some(true), line);
+        let found = has_bindings(alloc, set, store, shapes, expected);
+        check(found, Some(true), line)?;
     }
     Ok(())
 }
 
 // Whether the store has the triples of the set.
-fn has_triples(store: &Store, set: &TripleSet) -> Result<bool, Fail> {
+fn has_triples(store: &Store, set: &TripleSet) -> Result<bool> {
     let all = store.all()?;
     let same = all.items() == set.items();
     drop(all);
@@ -227,33 +222,23 @@ fn has_triples(store: &Store, set: &TripleSet) -> Result<bool, Fail> {
 }
 
 // Checks the triples of a store to which those of the set came, and its queries.
-fn check_store(
-    rt: &(impl Abort + Alloc<A = Global>),
-    set: &TripleSet,
-    store: &Store,
-) -> Result<(), Fail> {
-    assert!(rt; has_triples(store, set)?);
-    check_queries(rt, set, store)
+fn check_store(alloc: Global, set: &TripleSet, store: &Store) -> Result<()> {
+    check(has_triples(store, set)?, true, "the triples of the store")?;
+    check_queries(alloc, set, store)
 }
 
 // Makes the store, and checks it.
-fn check_new_store(
-    rt: &(impl Abort + Alloc<A = Global>),
-    set: &TripleSet,
-    keys: RandomState,
-) -> Result<(), Fail> {
-    let adds = set_of(rt.alloc(), TRIPLES).ok_or("triples, or memory")?;
-    let store = store_of(rt.alloc(), keys, adds).ok_or("memory")?;
-    let checked = check_store(rt, set, &store);
+fn check_new_store(alloc: Global, set: &TripleSet, keys: RandomState) -> Result<()> {
+    let adds = set_of(alloc, TRIPLES).context("triples, or memory")?;
+    let store = store_of(alloc, keys, adds).context("memory")?;
+    let checked = check_store(alloc, set, &store);
     drop(store);
     checked
 }
 
-#[test]
-fn bindings_are_found(rt: HostRuntime) -> Result<(), Fail> {
-    let keys = RandomState::new(&rt)?;
-    let set = set_of(rt.alloc(), TRIPLES).ok_or("triples, or memory")?;
-    let checked = check_new_store(&rt, &set, keys);
+pub(crate) fn bindings_are_found(alloc: Global, keys: RandomState) -> Result<()> {
+    let set = set_of(alloc, TRIPLES).context("triples, or memory")?;
+    let checked = check_new_store(alloc, &set, keys);
     drop(set);
     checked
 }

@@ -2,11 +2,11 @@
 
 use crate::checks::check_lines;
 use crate::stores::triple_of;
+use anyhow::{Context, Result};
 use entity_model::EntityId;
 use munger::munge;
 use rdf_term::{List, Triple, TripleSet};
 use std::alloc::Global;
-use std::test::Fail;
 
 // Lines of a dump of Q64, and then what is left of them.
 const LINES: &str =
@@ -57,28 +57,27 @@ fn triple_in(alloc: Global, line: &str) -> Option<Triple> {
 }
 
 // Puts the lines' triples into the list.
-fn push_triples(alloc: Global, lines: &str, list: &mut List<Triple>) -> Result<(), Fail> {
+fn push_triples(alloc: Global, lines: &str, list: &mut List<Triple>) -> Result<()> {
     for line in lines.lines() {
-        list.push(triple_in(alloc, line).ok_or("a triple, or memory")?)?;
+        list.push(triple_in(alloc, line).context("a triple, or memory")?)?;
     }
     Ok(())
 }
 
 // The set of the lines' triples.
-fn set(alloc: Global, lines: &str) -> Result<TripleSet, Fail> {
+fn set(alloc: Global, lines: &str) -> Result<TripleSet> {
     let mut list = List::new(alloc);
-    if let Err(fail) = push_triples(alloc, lines, &mut list) {
+    if let Err(error) = push_triples(alloc, lines, &mut list) {
         drop(list);
-        return Err(fail);
+        return Err(error);
     }
     Ok(TripleSet::from_list(list)?)
 }
 
-#[test]
-fn a_page_is_munged(rt: HostRuntime) -> Result<(), Fail> {
-    let id = EntityId::read("Q64").ok_or("an id")?;
-    let dump = set(rt.alloc(), LINES)?;
-    let munged = munge(rt.alloc(), id, &dump);
+pub(crate) fn a_page_is_munged(alloc: Global) -> Result<()> {
+    let id = EntityId::read("Q64").context("an id")?;
+    let dump = set(alloc, LINES)?;
+    let munged = munge(alloc, id, &dump);
     drop(dump);
-    check_lines(&rt, munged?, MUNGED)
+    check_lines(alloc, munged?, MUNGED)
 }

@@ -1,10 +1,9 @@
 // Patches between small sets, worked out by hand.
 
 use crate::checks::{check, halves};
+use anyhow::Result;
 use rdf_term::{List, OutOfMemory, Term, Text, Triple, TripleSet};
 use std::alloc::Global;
-use std::process::Abort;
-use std::test::Fail;
 use triple_patch::{Patch, patch};
 
 // An old set, a new one, what comes and what goes. A letter stands for a triple.
@@ -74,22 +73,20 @@ fn is_set_of(alloc: Global, triples: &TripleSet, letters: &str) -> Result<bool, 
 }
 
 // Checks whether the patch of a row has what comes, and what goes.
-fn check_row(rt: &(impl Abort + Alloc<A = Global>), row: &str) -> Result<(), Fail> {
+fn check_row(alloc: Global, row: &str) -> Result<()> {
     let (old, rest) = halves(row, "|")?;
     let (new, rest) = halves(rest, "|")?;
     let (adds, removes) = halves(rest, "|")?;
-    let patch = patch_of(rt.alloc(), old, new)?;
-    let has_adds = is_set_of(rt.alloc(), &patch.adds, adds);
-    let has_removes = is_set_of(rt.alloc(), &patch.removes, removes);
+    let patch = patch_of(alloc, old, new)?;
+    let has_adds = is_set_of(alloc, &patch.adds, adds);
+    let has_removes = is_set_of(alloc, &patch.removes, removes);
     drop(patch);
-    check(rt, (has_adds?, has_removes?), (true, true), row);
-    Ok(())
+    check((has_adds?, has_removes?), (true, true), row)
 }
 
-#[test]
-fn patches_lead_from_one_set_to_another(rt: HostRuntime) -> Result<(), Fail> {
+pub(crate) fn patches_lead_from_one_set_to_another(alloc: Global) -> Result<()> {
     for row in ROWS.lines() {
-        check_row(&rt, row)?;
+        check_row(alloc, row)?;
     }
     Ok(())
 }

@@ -5,11 +5,10 @@ ghost use Rattle.rdf_term.specs.Fit.{is_fit, IsFitAndShort};
 ghost use Rattle.term_pool.specs.Pool.{LiesIn};
 
 use crate::checks::{check, halves};
+use anyhow::{Context, Result};
 use rdf_term::{Term, write_term};
 use std::alloc::Global;
 use std::hash::RandomState;
-use std::process::Abort;
-use std::test::Fail;
 use term_pool::{Pool, PoolFault};
 use term_reading::read_term;
 use text_region::Region;
@@ -50,9 +49,9 @@ pub(crate) fn term_of(alloc: Global, text: &str) -> Option<Term>
     None
 }
 
-// Counts one more use, and says whether that was refused since the pool is full. A term that was there stays in its slot. Here and below
-// there is no answer where memory is refused, or where a use is taken from a term that isn't there.
-fn is_full_for(rt: &impl Abort, pool: &mut Pool, region: &mut Region, term: &Term) -> Option<bool>
+// Counts one more use, and says whether that was refused since the pool is full. There is no answer where the term isn't found in one slot
+// before and behind; here and below none too where memory is refused, or where a use is taken from a term that isn't there.
+fn is_full_for(pool: &mut Pool, region: &mut Region, term: &Term) -> Option<bool>
     requires lies { LiesIn pool.old region.old }
     requires fit { IsFitAndShort term.now }
     ensures { LiesIn pool.new region.new }
@@ -61,8 +60,7 @@ fn is_full_for(rt: &impl Abort, pool: &mut Pool, region: &mut Region, term: &Ter
     match pool.intern(region, term) {
         Ok(slot) => {
             let found = (before.unwrap_or(slot), pool.find(region, term));
-            check(rt, found, (slot, Some(slot)), "a term that was or is there");
-            Some(false)
+            (found == (slot, Some(slot))).then_some(false)
         }
         Err(PoolFault::Full) => Some(true),
         Err(PoolFault::OutOfMemory) => None,
@@ -80,79 +78,56 @@ fn release(pool: &mut Pool, region: &mut Region, term: &Term) -> Option<()>
 }
 
 // Counts one more use of a term, or one less, and says whether the pool is full for it.
-fn is_full_for_call(
-    rt: &impl Abort,
-    pool: &mut Pool,
-    region: &mut Region,
-    sign: &str,
-    term: &Term,
-) -> Option<bool>
+fn is_full_for_call(pool: &mut Pool, region: &mut Region, sign: &str, term: &Term) -> Option<bool>
     requires lies { LiesIn pool.old region.old }
     requires fit { IsFitAndShort term.now }
     ensures { LiesIn pool.new region.new }
 {
     if sign == "+" {
-        return is_full_for(rt, pool, region, term);
+        return is_full_for(pool, region, term);
     }
     release(pool, region, term)?;
     Some(false)
 }
 
 // Checks whether the pool was full and has the term, and how many terms it has where it wasn't full.
-fn check_row(
-    rt: &impl Abort,
-    found: (Option<bool>, bool),
-    len: u32,
-    row: &str,
-    step: &str,
-) -> Result<(), Fail> {
+fn check_row(found: (Option<bool>, bool), len: u32, row: &str, step: &str) -> Result<()> {
     let (count, there) = halves(row, " ")?;
-    check(rt, found, (Some(count == "full"), there == "there"), step);
+    check(found, (Some(count == "full"), there == "there"), step)?;
     if count != "full" {
-        check(rt, len, count.parse::<u32>()?, step);
+        check(len, count.parse::<u32>()?, step)?;
     }
     Ok(())
 }
 
 // Checks one step.
-fn check_step(
-    rt: &(impl Abort + Alloc<A = Global>),
-    pool: &mut Pool,
-    region: &mut Region,
-    step: &str,
-) -> Result<(), Fail>
+fn check_step(alloc: Global, pool: &mut Pool, region: &mut Region, step: &str) -> Result<()>
     requires { LiesIn pool.old region.old }
     ensures { OnOk result (LiesIn pool.new region.new) }
 {
     let (sign, row) = halves(step, " ")?;
     let (text, row) = halves(row, " ")?;
-    let term = term_of(rt.alloc(), text).ok_or("a term, or memory")?;
-    let full = is_full_for_call(rt, pool, region, sign, &term);
+    let term = term_of(alloc, text).context("a term, or memory")?;
+    let full = is_full_for_call(pool, region, sign, &term);
     let there = pool.find(region, &term).is_some();
     drop(term);
-    check_row(rt, (full, there), pool.len(), row, step)
+    check_row((full, there), pool.len(), row, step)
 }
 
 // Checks all steps in turn.
-fn check_steps(
-    rt: &(impl Abort + Alloc<A = Global>),
-    pool: &mut Pool,
-    region: &mut Region,
-) -> Result<(), Fail>
+fn check_steps(alloc: Global, pool: &mut Pool, region: &mut Region) -> Result<()>
     requires { LiesIn pool.old region.old }
 {
     for step in STEPS.lines() {
-        check_step(rt, pool, region, step)?;
+        check_step(alloc, pool, region, step)?;
     }
     Ok(())
 }
 
-#[test]
-fn a_pool_fills_up(rt: HostRuntime) -> Result<(), Fail> {
-    let keys = RandomState::new(&rt)?;
-    let mut region = Region::new(rt.alloc())?;
-    let mut pool = Pool::new(rt.alloc(), keys, 2);
-    let checked = check_steps(&rt, &mut pool, &mut region);
+pub(crate) fn a_pool_fills_up(alloc: Global, keys: RandomState) -> Result<()> {
+    let mut region = Region::new(alloc)?;
+    let mut pool = Pool::new(alloc, keys, 2);
+    let checked = check_steps(alloc, &mut pool, &mut region);
     drop(pool);
     drop(region);
     checked

@@ -1,13 +1,14 @@
 // What no page shows: statements of an item's id, and more statements than a page can have. The crate `cases` tries the rest.
 
+use crate::checks::check;
+use anyhow::{Context, Result};
 use entity_model::{Content, EntityId, Rank, Snak, Statement};
 use rdf_term::{CowText, List};
 use statement_facts::best;
 use std::alloc::Global;
-use std::test::Fail;
 
 // A statement of a property with a rank; None where the property is no id.
-fn ranked(alloc: Global, property: &str, rank: Rank) -> Option<Statement<'static>> {
+pub(crate) fn ranked(alloc: Global, property: &str, rank: Rank) -> Option<Statement<'static>> {
     let property = EntityId::read(property)?;
     let main = Snak {
         property,
@@ -39,16 +40,18 @@ fn push_ranked(
     Some(())
 }
 
-#[test]
-fn ranks_of_an_item_and_a_property(rt: HostRuntime) -> Result<(), Fail> {
-    let mut statements = List::new(rt.alloc());
-    let of_an_item = push_ranked(rt.alloc(), "Q1", Rank::Preferred, 1, &mut statements);
-    let of_a_property = push_ranked(rt.alloc(), "P1", Rank::Normal, 1, &mut statements);
-    let answers = best(rt.alloc(), &statements);
+pub(crate) fn ranks_of_an_item_and_a_property(alloc: Global) -> Result<()> {
+    let mut statements = List::new(alloc);
+    let of_an_item = push_ranked(alloc, "Q1", Rank::Preferred, 1, &mut statements);
+    let of_a_property = push_ranked(alloc, "P1", Rank::Normal, 1, &mut statements);
+    let answers = best(alloc, &statements);
     drop(statements);
-    of_an_item.and(of_a_property).ok_or("an id, or memory")?;
-    assert_eq!(rt; answers?.as_slice(), [true, true].as_slice());
-    Ok(())
+    of_an_item.and(of_a_property).context("an id, or memory")?;
+    check(
+        answers?.as_slice(),
+        [true, true].as_slice(),
+        "two statements",
+    )
 }
 
 // The answers for so many statements of a property; None where memory is refused.
@@ -61,10 +64,12 @@ fn answers_for_many(alloc: Global, count: u32) -> Option<List<bool>> {
 }
 
 // To compare each statement with all others would take 90 billion steps.
-#[test]
-fn many_statements(rt: HostRuntime) -> Result<(), Fail> {
-    let answers = answers_for_many(rt.alloc(), 300_000).ok_or("memory")?;
-    assert_eq!(rt; answers.len(), 300_000);
-    assert!(rt; answers.as_slice().iter().all(|answer| *answer));
-    Ok(())
+pub(crate) fn many_statements(alloc: Global) -> Result<()> {
+    let answers = answers_for_many(alloc, 300_000).context("memory")?;
+    let count = answers.as_slice().iter().filter(|answer| **answer).count();
+    check(
+        (answers.len(), count),
+        (300_000, 300_000),
+        "many statements",
+    )
 }

@@ -3,8 +3,8 @@
 ghost use Rattle.std.specs.Prelude.{◌<◌};
 
 use crate::checks::{check, halves};
-use std::process::Abort;
-use std::test::Fail;
+use anyhow::{Result, bail};
+use std::alloc::Global;
 use text_region::{Region, class_of};
 
 // The lengths of texts, and the class of the block that each lies in.
@@ -70,63 +70,60 @@ const LENGTHS: &str = "0 0
 29360129 84
 33554432 84";
 
-#[test]
-fn lengths_have_their_classes(rt: HostRuntime) -> Result<(), Fail> {
+pub(crate) fn lengths_have_their_classes(alloc: Global) -> Result<()> {
     for row in LENGTHS.lines() {
         let (length, want) = halves(row, " ")?;
         let length: usize = length.parse()?;
         if length > 33_554_432 {
-            return Err("a length".into());
+            bail!("a length");
         }
-        check(&rt, class_of(length), want.parse::<u8>()?, row);
+        check(class_of(length), want.parse::<u8>()?, row)?;
     }
     Ok(())
 }
 
 // Checks how many blocks of the class have texts, and how many there are.
-fn check_counts(rt: &impl Abort, region: &Region, class: u8, want: (u64, u64))
+fn check_counts(region: &Region, class: u8, want: (u64, u64)) -> Result<()>
     requires { class < 85 }
 {
-    assert_eq!(rt;
+    check(
         (region.live(class), region.made(class)),
         want,
-        "of {class}"
-    );
+        "blocks of the class",
+    )
 }
 
 // Places a text, and frees it: the class has one block after each.
-fn check_block(rt: &impl Abort, region: &mut Region, text: &[u8], class: u8) -> Result<(), Fail> {
+fn check_block(region: &mut Region, text: &[u8], class: u8) -> Result<()> {
     if text.len() > 33_554_432 || class >= 85 {
-        return Err("a text".into());
+        bail!("a text");
     }
     let piece = region.place(text)?;
-    check(rt, region.read(&piece), text, "a block");
-    check_counts(rt, region, class, (1, 1));
+    check(region.read(&piece), text, "a block")?;
+    check_counts(region, class, (1, 1))?;
     region.free(piece);
-    check_counts(rt, region, class, (0, 1));
-    Ok(())
+    check_counts(region, class, (0, 1))
 }
 
 // Places and frees the front of the text that each row has, where it is long enough for it.
-fn check_blocks(rt: &impl Abort, region: &mut Region, text: &[u8]) -> Result<(), Fail> {
+fn check_blocks(region: &mut Region, text: &[u8]) -> Result<()> {
     for row in LENGTHS.lines() {
         let (length, class) = halves(row, " ")?;
         let length: usize = length.parse()?;
         let class = class.parse()?;
         if let Some(front) = text.get(..length) {
-            check_block(rt, region, front, class)?;
+            check_block(region, front, class)?;
         }
     }
     Ok(())
 }
 
 // The texts have up to 4,194,320 bytes; the blocks of the classes above take more memory than a test should.
-#[test]
-fn a_free_block_is_used_again(rt: HostRuntime) -> Result<(), Fail> {
+pub(crate) fn a_free_block_is_used_again(alloc: Global) -> Result<()> {
     let text = "a text of 65 bytes, of which each row takes as many as it says ..";
-    let text = text.repeat(rt.alloc(), 64_528)?;
-    let mut region = Region::new(rt.alloc())?;
-    let checked = check_blocks(&rt, &mut region, text.as_bytes());
+    let text = text.repeat(alloc, 64_528)?;
+    let mut region = Region::new(alloc)?;
+    let checked = check_blocks(&mut region, text.as_bytes());
     drop(region);
     checked
 }

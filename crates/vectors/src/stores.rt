@@ -7,11 +7,10 @@ ghost use Rattle.triple_store.specs.{Counts.count_of, StoreState.counts_in};
 
 use crate::checks::{check, halves};
 use crate::pools::term_of;
+use anyhow::{Context, Result};
 use rdf_term::{List, Term, Triple, TripleSet};
 use std::alloc::Global;
 use std::hash::RandomState;
-use std::process::Abort;
-use std::test::Fail;
 use triple_patch::Patch;
 use triple_store::{Store, StoreFault, Uncounted};
 
@@ -167,52 +166,39 @@ fn is_full_for_call(alloc: Global, store: &mut Store, sign: &str, triple: &Tripl
 }
 
 // Checks how many owners a triple has, and how many triples are stored.
-fn check_counts(
-    rt: &impl Abort,
-    store: &Store,
-    triple: &Triple,
-    counts: &str,
-    step: &str,
-) -> Result<(), Fail> {
+fn check_counts(store: &Store, triple: &Triple, counts: &str, step: &str) -> Result<()> {
     let (owners, triples) = halves(counts, " ")?;
     let want = (owners.parse::<u64>()?, triples.parse::<usize>()?);
     check(
-        rt,
         (store.owners(triple, &mut Uncounted), store.triples()),
         want,
         step,
-    );
-    Ok(())
+    )
 }
 
 // Checks one step.
-fn check_step(
-    rt: &(impl Abort + Alloc<A = Global>),
-    store: &mut Store,
-    step: &str,
-) -> Result<(), Fail> {
+fn check_step(alloc: Global, store: &mut Store, step: &str) -> Result<()> {
     let (call, counts) = halves(step, " = ")?;
     let (sign, words) = halves(call, " ")?;
-    let triple = triple_of(rt.alloc(), words).ok_or("a triple, or memory")?;
-    let full = is_full_for_call(rt.alloc(), store, sign, &triple);
-    check(rt, full, Some(sign == "!"), step);
-    let checked = check_counts(rt, store, &triple, counts, step);
+    let triple = triple_of(alloc, words).context("a triple, or memory")?;
+    let full = is_full_for_call(alloc, store, sign, &triple);
+    check(full, Some(sign == "!"), step)?;
+    let checked = check_counts(store, &triple, counts, step);
     drop(triple);
     checked
 }
 
 // Checks all steps in turn.
-fn check_steps(rt: &(impl Abort + Alloc<A = Global>), store: &mut Store) -> Result<(), Fail> {
+fn check_steps(alloc: Global, store: &mut Store) -> Result<()> {
     for step in STEPS.lines() {
-        check_step(rt, store, step)?;
+        check_step(alloc, store, step)?;
     }
     Ok(())
 }
 
-#[test]
-fn a_store_fills_up(rt: HostRuntime) -> Result<(), Fail> {
-    let mut store = Store::new(rt.alloc(), RandomState::new(&rt)?, 2)?;
-    let checked = check_steps(&rt, &mut store);
+pub(crate) fn a_store_fills_up(alloc: Global, keys: RandomState) -> Result<()> {
+    let mut store = Store::new(alloc, keys, 2)?;
+    let checked = check_steps(alloc, &mut store);
     drop(store);
     checked
 }

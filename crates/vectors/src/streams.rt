@@ -1,8 +1,8 @@
 // A reader and a writer of std as a source and a sink.
 
 use crate::checks::check;
+use anyhow::Result;
 use std::io::{self, ErrorKind, Read, Write};
-use std::process::Abort;
 use wq_io::{Failed, NoWrite, Sink, Source, StdSink, StdSource};
 
 // A reader whose calls fail.
@@ -30,35 +30,29 @@ impl Write for Unflushed {
 }
 
 // Checks what a source reads of three bytes, and of a reader whose calls fail.
-fn check_sources(rt: &impl Abort) {
+fn check_sources() -> Result<()> {
     let mut source = StdSource::new(&b"abc"[..]);
     let mut buffer = [0; 2];
-    check(rt, source.read(&mut buffer), Ok(2), "two bytes");
-    check(rt, buffer.as_slice(), b"ab".as_slice(), "two bytes");
-    check(rt, source.read(&mut buffer), Ok(1), "the last byte");
-    check(rt, source.read(&mut buffer), Ok(0), "the end");
+    check(source.read(&mut buffer), Ok(2), "two bytes")?;
+    check(buffer.as_slice(), b"ab".as_slice(), "two bytes")?;
+    check(source.read(&mut buffer), Ok(1), "the last byte")?;
+    check(source.read(&mut buffer), Ok(0), "the end")?;
     let failed = StdSource::new(Broken).read(&mut buffer);
-    check(rt, failed, Err(Failed), "a reader whose calls fail");
+    check(failed, Err(Failed), "a reader whose calls fail")
 }
 
 // Checks what a sink writes into three bytes, and into a writer that can't flush.
-fn check_sinks(rt: &impl Abort) {
+fn check_sinks() -> Result<()> {
     let mut written = [0; 3];
     let mut sink = StdSink::new(&mut written[..]);
-    check(rt, sink.write(b"abcd"), Ok(3), "four bytes");
-    check(rt, sink.write(b"d"), Err(NoWrite::Failed), "the last byte");
-    check(rt, written.as_slice(), b"abc".as_slice(), "three bytes");
+    check(sink.write(b"abcd"), Ok(3), "four bytes")?;
+    check(sink.write(b"d"), Err(NoWrite::Failed), "the last byte")?;
+    check(written.as_slice(), b"abc".as_slice(), "three bytes")?;
     let failed = StdSink::new(Unflushed).write(b"abc");
-    check(
-        rt,
-        failed,
-        Err(NoWrite::Failed),
-        "a writer that can't flush",
-    );
+    check(failed, Err(NoWrite::Failed), "a writer that can't flush")
 }
 
-#[test]
-fn streams(rt: HostRuntime) {
-    check_sources(&rt);
-    check_sinks(&rt);
+pub(crate) fn streams() -> Result<()> {
+    check_sources()?;
+    check_sinks()
 }

@@ -1,10 +1,9 @@
 // Terms that are made of texts which may not stand as they are, and copies of terms.
 
 use crate::checks::{check_written, halves};
+use anyhow::{Context, Result};
 use rdf_term::{Term, iri, tagged, write_term};
 use std::alloc::Global;
-use std::process::Abort;
-use std::test::Fail;
 use term_reading::read_term;
 
 // A text, and the IRI that is made of it: what may not stand in an IRI is percent-encoded, and all else stays.
@@ -26,40 +25,36 @@ _:0a
 \"1\"^^<http://a/c>";
 
 // Checks how a term is written.
-fn check_term(rt: &(impl Abort + Alloc<A = Global>), term: Term, want: &str) -> Result<(), Fail> {
-    let mut written = Vec::new(rt.alloc());
+fn check_term(alloc: Global, term: Term, want: &str) -> Result<()> {
+    let mut written = Vec::new(alloc);
     let outcome = write_term(&term, &mut written);
     drop(term);
     outcome?;
-    check_written(rt, written.as_slice(), want);
-    Ok(())
+    check_written(written.as_slice(), want)
 }
 
-#[test]
-fn texts_are_iris(rt: HostRuntime) -> Result<(), Fail> {
+pub(crate) fn texts_are_iris(alloc: Global) -> Result<()> {
     for row in IRIS.lines() {
         let (text, want) = halves(row, " => ")?;
-        check_term(&rt, iri(rt.alloc(), text)?, want)?;
+        check_term(alloc, iri(alloc, text)?, want)?;
     }
     Ok(())
 }
 
-#[test]
-fn texts_have_languages(rt: HostRuntime) -> Result<(), Fail> {
+pub(crate) fn texts_have_languages(alloc: Global) -> Result<()> {
     for row in LANGUAGES.lines() {
         let (language, want) = halves(row, " => ")?;
-        check_term(&rt, tagged(rt.alloc(), "x", language)?, want)?;
+        check_term(alloc, tagged(alloc, "x", language)?, want)?;
     }
     Ok(())
 }
 
-#[test]
-fn terms_are_copied(rt: HostRuntime) -> Result<(), Fail> {
+pub(crate) fn terms_are_copied(alloc: Global) -> Result<()> {
     for text in TERMS.lines() {
-        let term = read_term(rt.alloc(), text)?.ok_or("a term")?;
-        let copy = term.copy(rt.alloc());
+        let term = read_term(alloc, text)?.context("a term")?;
+        let copy = term.copy(alloc);
         drop(term);
-        check_term(&rt, copy?, text)?;
+        check_term(alloc, copy?, text)?;
     }
     Ok(())
 }

@@ -2,4 +2,4 @@ use Rattle.term_pool.specs.Pool.{LiesIn}
 use Rattle.vectors.proofs.pools.check_steps.Given as goal
 
 abbrev pub invariant-loop-step : goal.invariant-loop-step
-invariant-loop-step g l = LiesIn l.pool l.region
+invariant-loop-step l = LiesIn l.pool l.region
