@@ -1,12 +1,16 @@
 """What the tests share: a made-up wiki, a store behind SPARQL, and a mirror that is run by its commands."""
 
+import asyncio
 import json
 import os
 import pathlib
 import re
 import shutil
+import socket
 import subprocess
 import sys
+import tempfile
+import time
 import typing
 import urllib.parse
 import urllib.request
@@ -17,6 +21,24 @@ TESTS = pathlib.Path(__file__).resolve().parent
 sys.path.insert(0, str(TESTS.parent))
 PYTHON = "/usr/bin/python3"
 ENTITIES = "60"
+INI = """[Database]
+DatabaseFile = store.db
+TransactionFile = store.trx
+ErrorLogFile = store.log
+LockFile = store.lck
+xa_persistent_file = store.pxa
+[TempDatabase]
+DatabaseFile = temp.db
+TransactionFile = temp.trx
+[Parameters]
+ServerPort = 127.0.0.1:{port}
+NumberOfBuffers = 20000
+DirsAllowed = {folder}
+[HTTPServer]
+ServerPort = 127.0.0.1:{http}
+[SPARQL]
+ResultSetMaxRows = 500
+"""
 
 
 def started(*words: str) -> tuple[subprocess.Popen[str], str]:
@@ -50,17 +72,71 @@ class Wiki:
         return str(self.folder / "dump.json.gz")
 
 
+def free_port() -> int:
+    """A port that nobody listens on."""
+    with socket.socket() as found:
+        found.bind(("127.0.0.1", 0))
+        return found.getsockname()[1]
+
+
+class Virtuoso:
+    """A Virtuoso that is up."""
+
+    def __init__(self, folder: pathlib.Path):
+        self.folder = folder
+        port, http = free_port(), free_port()
+        self.url, self.isql = f"http://127.0.0.1:{http}/sparql", f"isql-vt 127.0.0.1:{port} dba dba"
+        folder.mkdir()
+        (folder / "virtuoso.ini").write_text(INI.format(port=port, http=http, folder=folder))
+        self.start()
+
+    @staticmethod
+    def is_there() -> bool:
+        """Whether it is installed."""
+        return bool(shutil.which("virtuoso-t") and shutil.which("isql-vt"))
+
+    def start(self) -> None:
+        """Starts it, and allows updates."""
+        (self.folder / "store.lck").unlink(missing_ok=True)
+        words = ["virtuoso-t", "-f", "+configfile", "virtuoso.ini"]
+        self.child = subprocess.Popen(words, cwd=self.folder, stdout=subprocess.DEVNULL, stderr=subprocess.DEVNULL)
+        for _ in range(300):
+            ended = subprocess.run([*self.isql.split(), 'EXEC=GRANT SPARQL_UPDATE TO "SPARQL";'], capture_output=True, text=True)
+            if "Done" in ended.stdout or "already have" in ended.stderr:
+                return
+            time.sleep(1)
+        raise TimeoutError("Virtuoso doesn't come up")
+
+    def kill(self) -> None:
+        """Kills it."""
+        self.child.kill()
+        self.child.wait()
+
+
+def saving_program() -> tuple[str, dict[str, str]]:
+    """A wdq that saves on the way, and what its environment needs: the program, or what is made of one that can't."""
+    from wdq_mirror import program, settings
+
+    found = settings.Settings()
+    with tempfile.TemporaryDirectory() as folder:
+        can_save = asyncio.run(program.Program(found).saves_on_the_way(pathlib.Path(folder) / "scratch"))
+    path = program.find(found)
+    return (path, {}) if can_save else (str(TESTS / "saving_wdq.py"), {"WDQ_BELOW": path})
+
+
 class Mirror:
     """A mirror by its commands."""
 
     def __init__(self, home: pathlib.Path):
         self.home = home
         self.said = self.told = ""
+        # How long a command may take.
+        self.seconds = 300.0
 
     def run(self, *words: str) -> int:
         """Runs a command, and keeps what it prints."""
         command = [PYTHON, str(TESTS.parent / "wdq-mirror"), "--home", str(self.home), *words]
-        ended = subprocess.run(command, capture_output=True, text=True, timeout=300)
+        ended = subprocess.run(command, capture_output=True, text=True, timeout=self.seconds)
         self.said, self.told = ended.stdout, ended.stderr
         return ended.returncode
 

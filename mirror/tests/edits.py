@@ -5,7 +5,7 @@
 
 The pages of 40 items are edited in turn, and now and then one is deleted. A watermark follows each event. Each edit changes one
 part of a page: its label, amounts, time or point. Amounts change between `+5`, `+5.00`, `5.0` and others, some of them at once on one
-page; labels have characters that need escapes; there are dates before Christ, points on the Earth and on Mars, and numbers too long for
+page; labels and titles of articles have characters that need escapes; there are dates before Christ, points on the Earth and on Mars, and numbers too long for
 64 bits.
 """
 
@@ -19,6 +19,7 @@ AMOUNTS = ["+5", "+5.00", "5.0", "-7", "-7.10", "+0.50", "1234567890123456789012
 LABELS = ["plain", 'a "quote"', "back\\slash", "two\nlines", "tab\there", "typed \\n and \\u0041", "ends \\",
           "naïve 東京 😀", "\\U", "a\rb\x01c"]
 YEARS = ["+1952-03-11", "-0044-03-15", "+0044-03-15", "-13798000000-00-00", "+2024-02-29"]
+TITLES = ["Plain", "Berlin (city)", "A: b; c, d/e~f", "100%", "%3A", "!*'@$ ?", "Übung"]
 GLOBES = ["Q2", "Q2", "Q2", "Q111"]
 ENTITY = "http://www.wikidata.org/entity/"
 
@@ -45,7 +46,9 @@ def page(item, step):
         "P3": [statement(item, "P3", 0, "time", time)],
     }
     label = {"language": "en", "value": f"{item} {LABELS[label_turn % len(LABELS)]}"}
-    return {"type": "item", "id": f"Q{item}", "labels": {"en": label}, "claims": {key: value for key, value in claims.items() if value}}
+    link = {"site": "enwiki", "title": f"{TITLES[label_turn % len(TITLES)]} {item}", "badges": []}
+    claims = {key: value for key, value in claims.items() if value}
+    return {"type": "item", "id": f"Q{item}", "labels": {"en": label}, "claims": claims, "sitelinks": {"enwiki": link}}
 
 
 def main():

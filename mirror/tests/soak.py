@@ -1,12 +1,13 @@
 #!/usr/bin/python3
 """Runs a mirror over the made-up wiki while things fail at random, and looks at the store in the end.
 
-    ./soak.py --minutes 10 --seed 1 --entities 2000 [--store URL --kill-store COMMAND]
+    ./soak.py --minutes 10 --seed 1 --entities 2000 [--virtuoso]
 
-Every few seconds one of these happens: kill -9 of wdq, kill -9 of wdq-mirror, SIGTERM, a wiki that is down, a connection that is cut, a
-stretch of the stream that is lost, a full disk (where this may mount a tmpfs of its own). A service that ends with status 3 is started again,
-as systemd does; any other status is a fault. In the end the store has what the wiki has, and what one `wdq replay --export` gives of all that
-was delivered. It prints what happened, how long the mark was behind, and the most memory. Status 0: all is right; 1: it isn't.
+Every few seconds one of these happens: kill -9 of wdq, of wdq-mirror or of the store (Virtuoso), SIGTERM, a wiki that is down, a connection
+that is cut, a stretch of the stream that is lost, a full disk (where this may mount a tmpfs of its own), a clock that jumps (where libfaketime
+is installed). A service that ends with status 3 is started again, as systemd does; any other status is a fault. In the end the store has what
+the wiki has, and what one `wdq replay --export` gives of all that was delivered. It prints what happened, and the most memory of a process.
+Status 0: all is right; 1: it isn't.
 """
 
 import argparse
@@ -28,6 +29,7 @@ import conftest
 from wdq_mirror import program, settings
 
 DISK = "400m"
+FAKETIME = "/usr/lib/x86_64-linux-gnu/faketime/libfaketime.so.1"
 
 
 class Soak:
@@ -40,7 +42,11 @@ class Soak:
         self.is_mounted = self.mount()
         self.mirror = conftest.Mirror(work / "disk/home")
         self.child: typing.Optional[subprocess.Popen[bytes]] = None
+        self.store = conftest.Virtuoso(work / "virtuoso") if words.virtuoso else None
         self.peak = 0
+        # By how much the clock of the service is off.
+        self.clock = work / "clock"
+        self.clock.write_text("+0")
 
     def mount(self) -> bool:
         """Mounts a small disk for the home, where that is allowed."""
@@ -94,7 +100,21 @@ class Soak:
             ballast.unlink()
 
     def kill_store(self) -> None:
-        subprocess.run(self.words.kill_store, shell=True, check=True)
+        assert self.store
+        self.store.kill()
+        time.sleep(self.chance.uniform(0.5, 3))
+        self.store.start()
+
+    def jump_clock(self) -> None:
+        """The clock jumps by up to a day; the one that never jumps goes on."""
+        self.clock.write_text(f"{self.chance.randint(-86_400, 86_400):+}")
+
+    def environment(self) -> dict[str, str]:
+        """The environment of the service, with a clock that may jump."""
+        if not os.path.exists(FAKETIME):
+            return dict(os.environ)
+        faked = {"LD_PRELOAD": FAKETIME, "FAKETIME_TIMESTAMP_FILE": str(self.clock), "FAKETIME_NO_CACHE": "1"}
+        return {**os.environ, **faked, "FAKETIME_DONT_FAKE_MONOTONIC": "1", "DONT_FAKE_MONOTONIC": "1"}
 
     # --- The run ---
 
@@ -126,7 +146,7 @@ class Soak:
             assert status in (0, 3, -9, -15), f"wdq-mirror ended with status {status}: look at {self.work / 'log'}"
         words = [conftest.PYTHON, str(conftest.TESTS.parent / "wdq-mirror"), "--home", str(self.mirror.home), "run"]
         with open(self.work / "log", "ab") as log:
-            self.child = subprocess.Popen(words, stderr=log)
+            self.child = subprocess.Popen(words, stderr=log, env=self.environment())
 
     def watch(self) -> None:
         """Notes the memory of the service and of wdq."""
@@ -140,8 +160,14 @@ class Soak:
 
     def begin(self) -> None:
         """Loads the dump. The stream takes three quarters of the time."""
-        self.mirror.init(self.wiki, *(("--store", self.words.store, "--counts") if self.words.store else ()))
-        self.mirror.set(delay_seconds=5, era_minutes=1)
+        # The preloaded clock is for the service alone.
+        path = self.work / "wdq"
+        wdq, needed = conftest.saving_program()
+        settings_of_wdq = "".join(f"export {name}={value}\n" for name, value in needed.items())
+        path.write_text(f'#!/bin/sh\nunset LD_PRELOAD\n{settings_of_wdq}exec {wdq} "$@"\n')
+        path.chmod(0o755)
+        self.mirror.init(self.wiki, "--path", str(path), *(("--store", self.store.url, "--counts") if self.store else ()))
+        self.mirror.set(delay_seconds=5, era_minutes=1, save_watermarks=100)
         self.mirror.load(self.wiki)
         length = self.wiki.control()["end"]
         self.wiki.control(rate=max(1, int(length / (self.words.minutes * 45))))
@@ -149,7 +175,7 @@ class Soak:
     def run(self) -> None:
         """Lets things fail until the time is over."""
         faults = [self.kill_wdq, self.kill_mirror, self.stop_mirror, self.silence_wiki, self.cut_connection, self.lose_changes]
-        faults += [self.fill_disk] * self.is_mounted + [self.kill_store] * bool(self.words.kill_store)
+        faults += [self.fill_disk] * self.is_mounted + [self.kill_store] * bool(self.store) + [self.jump_clock] * os.path.exists(FAKETIME)
         end = time.monotonic() + self.words.minutes * 60
         while time.monotonic() < end:
             self.keep_running()
@@ -192,6 +218,8 @@ class Soak:
         if self.child and self.child.poll() is None:
             self.child.kill()
             self.child.wait()
+        if self.store:
+            self.store.kill()
         if self.is_mounted:
             subprocess.run(["umount", "-l", str(self.work / "disk")], check=False)
 
@@ -201,8 +229,7 @@ def main() -> int:
     parser.add_argument("--minutes", type=float, default=5, help="how long things fail (5)")
     parser.add_argument("--seed", type=int, default=1, help="which things fail (1)")
     parser.add_argument("--entities", type=int, default=400, help="the size of the wiki (400)")
-    parser.add_argument("--store", help="a SPARQL endpoint; without it the embedded store")
-    parser.add_argument("--kill-store", help="a command that kills this store and starts it again")
+    parser.add_argument("--virtuoso", action="store_true", help="fill a Virtuoso in place of the embedded store")
     parser.add_argument("--keep", action="store_true", help="keep the folder")
     words = parser.parse_args()
     work = pathlib.Path(tempfile.mkdtemp(prefix="soak-"))

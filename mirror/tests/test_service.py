@@ -5,23 +5,15 @@ import contextlib
 import os
 import pathlib
 import signal
-import socket
 import subprocess
 import time
 import typing
 import urllib.request
 
 import pytest
-from conftest import PYTHON, TESTS, Mirror, Wiki, settle
+from conftest import PYTHON, TESTS, Mirror, Wiki, free_port, saving_program, settle
 
-from wdq_mirror import program, settings
-
-
-def free_port() -> int:
-    """A port that nobody listens on."""
-    with socket.socket() as found:
-        found.bind(("127.0.0.1", 0))
-        return found.getsockname()[1]
+from wdq_mirror import snapshot
 
 
 @contextlib.contextmanager
@@ -92,10 +84,19 @@ def test_wdq_and_the_service_are_killed(wiki: Wiki, mirror: Mirror) -> None:
     mirror.good("verify")
 
 
+def check_last_era(home: pathlib.Path) -> None:
+    """Looks whether the journal of the last era has as many lines as its snapshot says."""
+    before, last = (snapshot.read_head(path).lines for path in sorted(home.glob("snapshots/??????"))[-2:])
+    lines = sorted(home.glob("events/*.jsonl"))[-1].read_bytes().count(b"\n")
+    assert last - before == lines > 0
+
+
 def test_a_wdq_that_saves_on_the_way(wiki: Wiki, mirror: Mirror, monkeypatch: pytest.MonkeyPatch) -> None:
     """Eras end at its saves, while it goes on, though it and the service are killed."""
-    monkeypatch.setenv("WDQ_BELOW", program.find(settings.Settings()))
-    mirror.init(wiki, "--path", str(TESTS / "saving_wdq.py")).load(wiki)
+    path, environment = saving_program()
+    for name, value in environment.items():
+        monkeypatch.setenv(name, value)
+    mirror.init(wiki, "--path", path).load(wiki)
     mirror.set(delay_seconds=2, save_watermarks=5)
     wiki.control(rate=40)
     for turn in range(2):
@@ -107,6 +108,7 @@ def test_a_wdq_that_saves_on_the_way(wiki: Wiki, mirror: Mirror, monkeypatch: py
             assert child.poll() is None
             if turn == 0:
                 child.kill()
+    check_last_era(mirror.home)
     wiki.control(rate=500)
     settle(mirror, wiki)
     mirror.good("verify")

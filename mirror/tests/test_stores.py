@@ -2,40 +2,13 @@
 
 import pathlib
 import shutil
-import socket
 import subprocess
-import time
 import typing
 
 import pytest
-from conftest import PYTHON, TESTS, Mirror, stored
+from conftest import PYTHON, TESTS, Mirror, Virtuoso, stored
 
 EDITS = "400"
-INI = """[Database]
-DatabaseFile = store.db
-TransactionFile = store.trx
-ErrorLogFile = store.log
-LockFile = store.lck
-xa_persistent_file = store.pxa
-[TempDatabase]
-DatabaseFile = temp.db
-TransactionFile = temp.trx
-[Parameters]
-ServerPort = 127.0.0.1:{port}
-NumberOfBuffers = 20000
-DirsAllowed = {folder}
-[HTTPServer]
-ServerPort = 127.0.0.1:{http}
-[SPARQL]
-ResultSetMaxRows = 500
-"""
-
-
-def free_port() -> int:
-    """A port that nobody listens on."""
-    with socket.socket() as found:
-        found.bind(("127.0.0.1", 0))
-        return found.getsockname()[1]
 
 
 @pytest.fixture
@@ -73,6 +46,25 @@ def test_the_embedded_store(mirror: Mirror, edited: tuple[pathlib.Path, pathlib.
     assert f'"{len(stored(mirror.home))}"' in said
 
 
+def test_articles_as_the_query_service_has_them(mirror: Mirror, endpoint: str, edited: tuple[pathlib.Path, pathlib.Path]) -> None:
+    """They come, go and are asked for in the service's spelling."""
+    mirror.good("init", "--agent", "try/1.0 (nobody@example.org)", "--store", endpoint, "--articles", "service")
+    take(mirror, edited)
+    query = "SELECT DISTINCT ?a WHERE { GRAPH <urn:wdq:triples> { ?a <http://schema.org/about> ?q } }"
+    there = {line.removeprefix("a=").strip() for line in mirror.good("ask", "--sparql", query).splitlines()}
+    assert len(there) > 20
+    titles = {line.partition("/wiki/")[2] for line in there}
+    assert any(title.startswith("Berlin_(city)_") for title in titles) and any(title.startswith("A:_b;_c,_d/e~f_") for title in titles)
+    assert any(title.startswith("%253A_") for title in titles) and not any("%28" in title for title in titles)
+    said = mirror.good("ask", "?", "<http://schema.org/about>", "?").splitlines()[1:]
+    assert {line.split()[0] for line in said} == there
+    for article in there:
+        assert mirror.good("ask", article, "<http://schema.org/about>", "?").startswith(f"# ask 1: 1 triples\n{article} ")
+    # A setting that changes once the store is filled is refused.
+    mirror.set(articles="wdq")
+    assert mirror.run("verify") == 4 and "set it back" in mirror.told
+
+
 def test_an_endpoint_that_gives_few_rows(mirror: Mirror, endpoint: str, edited: tuple[pathlib.Path, pathlib.Path]) -> None:
     mirror.good("init", "--agent", "try/1.0 (nobody@example.org)", "--store", endpoint)
     take(mirror, edited)
@@ -84,32 +76,14 @@ def test_an_endpoint_with_a_graph_store(mirror: Mirror, endpoint: str, edited: t
     take(mirror, edited)
 
 
-class Virtuoso(typing.NamedTuple):
-    """A Virtuoso that is up."""
-
-    url: str
-    isql: str
-    folder: pathlib.Path
-
-
 @pytest.fixture
 def virtuoso(tmp_path: pathlib.Path) -> typing.Iterator[Virtuoso]:
     """A Virtuoso of its own, which gives at most 500 rows."""
-    if not shutil.which("virtuoso-t") or not shutil.which("isql-vt"):
+    if not Virtuoso.is_there():
         pytest.skip("virtuoso-opensource-7 is missing")
-    folder, port, http = tmp_path / "virtuoso", free_port(), free_port()
-    folder.mkdir()
-    (folder / "virtuoso.ini").write_text(INI.format(port=port, http=http, folder=folder))
-    child = subprocess.Popen(["virtuoso-t", "-f", "+configfile", "virtuoso.ini"], cwd=folder, stdout=subprocess.DEVNULL, stderr=subprocess.DEVNULL)
-    isql = f"isql-vt 127.0.0.1:{port} dba dba"
-    for _ in range(120):
-        ended = subprocess.run([*isql.split(), 'EXEC=GRANT SPARQL_UPDATE TO "SPARQL";'], capture_output=True, text=True)
-        if "Done" in ended.stdout:
-            break
-        time.sleep(1)
-    yield Virtuoso(f"http://127.0.0.1:{http}/sparql", isql, folder)
-    child.kill()
-    child.wait()
+    found = Virtuoso(tmp_path / "virtuoso")
+    yield found
+    found.kill()
 
 
 @pytest.mark.parametrize("loader", ["updates", "virtuoso"])

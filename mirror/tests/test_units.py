@@ -7,7 +7,7 @@ import sqlite3
 import pytest
 from conftest import Mirror
 
-from wdq_mirror import counts, errors, event_lines, home, records, settings, stream, terms, times, verifying
+from wdq_mirror import articles, asking, counts, errors, event_lines, home, loading, records, settings, stream, terms, times, verifying
 from wdq_mirror.stores import sparql
 
 DECIMAL = "http://www.w3.org/2001/XMLSchema#decimal"
@@ -33,14 +33,15 @@ def test_settings_come_back_as_they_were_written() -> None:
     [
         ("[mirror]\ngraf = 'urn:a'", "did you mean graph?"),
         ("[mirrors]\n", "did you mean mirror?"),
-        ("[mirror]\ncounts = 1", "should be of the kind of False"),
+        ("[mirror]\ncounts = 1", "should be true or false, as false"),
         ("[mirror]\ngraph = '<urn:a>'", "without angle brackets"),
+        ("[mirror]\narticles = 'servce'", "did you mean service?"),
         ("[mirror]\nshard = '4/4'", "K from 0 to N - 1"),
         ("[store]\nkind = 'sparql'", "should be an address"),
         ("[store]\nkind = 'sparkle'", "should be one of embedded, sparql"),
         ("[store]\nbatch_records = 0", "at least 1"),
-        ("mirror = 3", "is no section"),
-        ("[mirror", "is no TOML"),
+        ("mirror = 3", "is not a section"),
+        ("[mirror", "isn't valid TOML"),
     ],
 )
 def test_settings_that_are_wrong(text: str, said: str) -> None:
@@ -87,10 +88,21 @@ def test_two_processes_do_not_change_a_home(tmp_path: pathlib.Path) -> None:
 
 def test_a_page_that_was_given_up_comes_back_with_the_next_era(tmp_path: pathlib.Path) -> None:
     one = made(tmp_path / "home")
-    one.give_up(2**64 - 1, "Q1", 1)
+    one.give_up(home.Wanted(2**64 - 1, "Q1", 5), 1)
     assert one.is_given_up(2**64 - 1) and one.goes_without_pages()
     one.close_era(home.Era(1, home.Position(0, "a"), ""))
     assert not one.is_given_up(2**64 - 1)
+
+
+def test_a_page_that_was_given_up_stays_away_where_wdq_goes_on_and_its_event_is_behind_the_mark(tmp_path: pathlib.Path) -> None:
+    one = made(tmp_path / "home")
+    one.give_up(home.Wanted(1, "Q1", 5), 1)
+    one.give_up(home.Wanted(2, "Q2", 5), 1)
+    one.give_up(home.Wanted(2, "Q2", 7), 1)
+    one.give_up(home.Wanted(2, "Q2", 6), 1)
+    one.keep_lacking(6, 2)
+    one.close_era(home.Era(1, home.Position(0, "a"), ""))
+    assert not one.is_given_up(1) and one.is_given_up(2)
 
 
 # --- Lines, records, terms ---
@@ -123,6 +135,12 @@ def test_literals_come_back(text: str) -> None:
 def test_lines_that_are_no_triples(line: str) -> None:
     with pytest.raises(ValueError):
         terms.read_triple(line)
+
+
+@pytest.mark.parametrize("text", ["plain", "two\twords", "\x7f", "na\u00efve \u6771\u4eac \U0001f600", "a\u00a0b", "a\u2028b"])
+def test_a_load_spells_as_updates_do(text: str) -> None:
+    line = f'<urn:a> <urn:b> "{text}"@en .'
+    assert loading.Speller(articles.Articles("wdq"), None).take(line) == [terms.read_triple(line).sparql()]
 
 
 def decimal(text: str) -> terms.Triple:
@@ -159,6 +177,38 @@ def test_values_that_stores_spell_their_own_way_compare_as_equal() -> None:
 def test_an_update_removes_adds_and_marks_in_this_order() -> None:
     lines = [f"<urn:a> <urn:b> <urn:{number}> ." for number in range(2500)]
     assert [block.count("\n") for block in sparql.blocks("INSERT", "urn:g", lines)] == [1001, 1001, 501]
+
+
+# --- Articles ---
+
+
+@pytest.mark.parametrize(
+    ("own", "service"),
+    [
+        ("https://en.wikipedia.org/wiki/Berlin_%28city%29", "https://en.wikipedia.org/wiki/Berlin_(city)"),
+        ("https://de.wikivoyage.org/wiki/%3B%40%24%21%2A%28%29%2C%2F~%3A", "https://de.wikivoyage.org/wiki/;@$!*(),/~:"),
+        ("https://en.wikipedia.org/wiki/%253A%27%3F%C3%9C", "https://en.wikipedia.org/wiki/%253A%27%3F%C3%9C"),
+        ("https://en.wikipedia.org/", "https://en.wikipedia.org/"),
+        ("http://www.wikidata.org/entity/Q42", "http://www.wikidata.org/entity/Q42"),
+    ],
+)
+def test_articles_are_spelled_one_to_one(own: str, service: str) -> None:
+    found = articles.Articles("service")
+    assert found.iri(own) == service and found.own_iri(service) == own
+    assert articles.Articles("wdq").iri(own) == own == articles.Articles("wdq").own_iri(own)
+    url = "<https://en.wikipedia.org/wiki/A_%28b%29>"
+    assert found.line(f"<{own}> <urn:p> {url} .") == f"<{service}> <urn:p> {url} ."
+
+
+def test_rows_of_a_match_have_articles_where_subjects_stand() -> None:
+    found = articles.Articles("service")
+    line = b'{"match":[["<https://a.org/wiki/B_(c)>","<urn:p>","?o"],["?a","<urn:q>","?o"]]}'
+    question, columns = asking.own_question(line, found)
+    assert b"B_%28c%29" in question and columns == [False, True]
+    answers = asking.Answers(found, [columns])
+    assert answers.spelled("# match 1: 1 rows") == "# match 1: 1 rows"
+    row = "# row <https://a.org/wiki/O_%28c%29> <https://a.org/wiki/S_%28c%29>"
+    assert answers.spelled(row) == "# row <https://a.org/wiki/O_%28c%29> <https://a.org/wiki/S_(c)>"
 
 
 # --- The stream ---

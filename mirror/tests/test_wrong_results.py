@@ -48,7 +48,7 @@ def test_another_home_with_as_many_records(wiki: Wiki, mirror: Mirror) -> None:
     shutil.copy(mirror.home / "store.db", other.home / "store.db")
     before = stored(other.home)
     assert other.run("step") == 4
-    assert "were others than this home's" in other.told and "wdq-mirror reload" in other.told
+    assert "differ from this home's" in other.told and "wdq-mirror reload" in other.told
     assert stored(other.home) == before
     other.good("reload")
     other.good("verify")
@@ -85,6 +85,26 @@ def test_a_gap_that_the_wiki_does_not_mend(wiki: Wiki, mirror: Mirror) -> None:
     mirror.set(site=wiki.site, tries=6)
     assert "gaps healed: 1" in mirror.good("heal")
     assert "heal mends it" not in mirror.good("status")
+
+
+def test_a_gap_that_the_wiki_has_forgotten(wiki: Wiki, mirror: Mirror) -> None:
+    """A newer dump heals it: pages that changed, came, went and became redirects in it."""
+    mirror.init(wiki).load(wiki)
+    mirror.set(history_days=30)
+    length = wiki.control()["end"]
+    wiki.control(end=length - 80)
+    mirror.step()
+    wiki.control(oldest=length - 20, end=length)
+    assert mirror.run("step", "--idle", "1") == 5 and "heal --dump" in mirror.told
+    dump = wiki.folder / "newer.json"
+    pages = [path.read_text() for path in (wiki.folder / "now").iterdir()]
+    dump.write_text("[\n" + ",\n".join(page for page in pages if '"redirect"' not in page) + "\n]\n")
+    assert mirror.run("heal", "--dump", str(dump), "--began", "2024-05-01T10:00:00Z") == 2 and "get a newer dump" in mirror.told
+    assert mirror.run("heal", "--dump", str(dump)) == 2
+    said = mirror.good("heal", "--dump", str(dump), "--began", "2024-06-01T00:00:00Z")
+    assert "gaps healed: 1" in said and "newer in the dump: 0" not in said
+    settle(mirror, wiki)
+    mirror.good("verify")
 
 
 def test_shards_share_a_store(wiki: Wiki, mirror: Mirror, endpoint: str) -> None:

@@ -57,5 +57,5 @@ def restore(path: pathlib.Path, source: pathlib.Path) -> Home:
                 raise Mismatch(f"{source} has files that no backup of a home has: use another one")
             archive.extractall(path, members)
     except (OSError, tarfile.TarError, EOFError) as error:
-        raise Mismatch(f"{source} is no whole backup ({error}): use an older one") from None
+        raise Mismatch(f"{source} is not a whole backup ({error}): use an older one") from None
     return Home(path)

@@ -10,6 +10,7 @@ import sys
 import typing
 
 from . import __version__, settings as settings_of
+from .articles import SPELLINGS
 from .errors import STATUSES, MirrorError, Unreachable, Usage
 
 BEGIN = """
@@ -40,7 +41,7 @@ def agent_of(words: argparse.Namespace) -> settings_of.Settings:
     if words.store and words.store != "embedded":
         found.store.kind, found.store.update = "sparql", words.store
     found.mirror.counts = words.counts
-    for section, name in (("mirror", "graph"), ("mirror", "stream"), ("mirror", "shard"), ("wiki", "site"), ("program", "path")):
+    for section, name in (("mirror", "graph"), ("mirror", "stream"), ("mirror", "shard"), ("mirror", "articles"), ("wiki", "site"), ("program", "path")):
         value = getattr(words, name)
         if value:
             setattr(getattr(found, section), name, value)
@@ -181,22 +182,32 @@ async def command_heal(words: argparse.Namespace) -> int:
     from . import sending, stepping
     from .event_lines import moment
 
-    for text in (words.since, words.until):
+    for text in (words.since, words.until, words.began):
         if text:
             moment(text)
     if bool(words.since) != bool(words.until):
         raise Usage("--since and --until go together: between these times the wiki is asked what changed")
+    if bool(words.dump) != bool(words.began):
+        raise Usage("--dump and --began go together: gaps that ended before the dump was begun are healed by it")
     async with Session(words) as session:
         home = session.home
         if words.since:
             home.add_gap(words.since, words.until)
-        count, gaps = len(home.gaps()), home.gaps()
+        gaps = home.gaps()
         tools = session.tools()
         await stepping.prepare(tools)
-        asked = await (stepping.heal_all(tools) if words.all else stepping.heal(tools))
+        newer = 0
+        if words.dump:
+            newer, asked = await stepping.heal_by_dump(tools, words.dump, words.began)
+        else:
+            asked = await (stepping.heal_all(tools) if words.all else stepping.heal(tools))
         await sending.update(home, session.store)
-        spans = ", ".join(f"{gap.began} to {gap.ended}" for gap in gaps)
-        print(f"gaps healed: {count}{f' ({spans})' if spans else ''}; entities asked for: {asked}")
+        healed = [gap for gap in gaps if gap not in home.gaps()]
+        spans = ", ".join(f"{gap.began} to {gap.ended}" for gap in healed)
+        told = f"; entities that are newer in the dump: {newer}" if words.dump else ""
+        print(f"gaps healed: {len(healed)}{f' ({spans})' if spans else ''}; entities asked for: {asked}{told}")
+        if home.gaps():
+            print(f"gaps left: {len(home.gaps())}, the first from {home.gaps()[0].began} to {home.gaps()[0].ended}")
     return 0
 
 
@@ -217,7 +228,7 @@ async def command_ask(words: argparse.Namespace) -> int:
             await asking.ask_store(session.store, words.sparql)
         elif words.terms:
             if len(words.terms) != 3:
-                raise Usage("a question has three words, subject, predicate and object, each ? or a term: wdq-mirror ask '<http://..>' '?' '?'")
+                raise Usage("a question has three terms, subject, predicate and object, and ? stands for any: wdq-mirror ask '<http://..>' '?' '?'")
             await asking.ask_snapshot(session.home, session.program, [asking.question_of(words.terms)])
         else:
             await asking.ask_snapshot(session.home, session.program, sys.stdin.buffer)
@@ -266,6 +277,7 @@ def add_init(parser: argparse.ArgumentParser) -> None:
     parser.add_argument("--counts", action="store_true", help="count values, for stores that spell them their own way, as Virtuoso")
     parser.add_argument("--graph", metavar="IRI", help="the graph of the triples")
     parser.add_argument("--stream", metavar="IRI", help="where the store keeps the mirror's number")
+    parser.add_argument("--articles", choices=SPELLINGS, help="how articles' IRIs are spelled: as wdq does, or as the Wikidata Query Service")
     parser.add_argument("--shard", metavar="K/N", help="only the entities whose number is K modulo N")
     parser.add_argument("--site", metavar="URL", help="the wiki")
     parser.add_argument("--stream-url", metavar="URL", help="the wiki's stream of page changes")
@@ -286,24 +298,26 @@ def add_words(commands: typing.Any) -> None:
     load.add_argument("--began", metavar="TIME", help="when the dump was begun; without it, the greatest time in it")
     load.add_argument("--skip-bad-lines", action="store_true", help="leave out lines that are no entities")
     load.add_argument("--clear", action="store_true", help="clear a store that something else filled")
-    reload = add("reload", command_reload, "fill the store anew from the home; mends a store that is older, lost or foreign")
+    reload = add("reload", command_reload, "fill the store again from the home: where it is lost, older than the home, or wrong")
     reload.add_argument("--clear", action="store_true", help="clear a store that something else filled")
     run = add("run", command_run, "keep the store in step with the wiki until it is stopped by SIGTERM or Ctrl-C")
     run.add_argument("--http", metavar="HOST:PORT", help="serve a page and /metrics there")
     step = add("step", command_step, "take one batch: of the stream up to now, or of an event file")
     step.add_argument("batch", type=pathlib.Path, nargs="?", metavar="EVENTS", help="an event file; without it, the wiki's stream")
-    step.add_argument("--seconds", type=float, default=60.0, help="read the stream for at most so long (60)")
-    step.add_argument("--events", type=int, default=10_000, help="or so many events (10000)")
-    step.add_argument("--idle", type=float, default=3.0, help="or until nothing comes for so many seconds (3)")
+    step.add_argument("--seconds", type=float, default=60.0, metavar="N", help="read the stream for at most N seconds (60)")
+    step.add_argument("--events", type=int, default=10_000, metavar="N", help="or for N events (10000)")
+    step.add_argument("--idle", type=float, default=3.0, metavar="N", help="or until nothing has come for N seconds (3)")
     add("update", command_update, "send the records that the store lacks")
     verify = add("verify", command_verify, "compare the store with the home, triple by triple")
     verify.add_argument("--mend", action="store_true", help="mend the store where it differs")
-    heal = add("heal", command_heal, "mend gaps of the stream: ask the wiki what changed in them")
-    heal.add_argument("--since", metavar="TIME", help="also this stretch of time, as if it were a gap")
+    heal = add("heal", command_heal, "mend gaps of the stream: by what the wiki says that changed in them, or by a newer dump")
+    heal.add_argument("--since", metavar="TIME", help="mend this stretch of time too, as if it were a gap")
     heal.add_argument("--until", metavar="TIME", help="its end")
-    heal.add_argument("--all", action="store_true", help="ask for each entity that the home holds, which also finds lost deletions of any age")
-    add("status", command_status, "say how the mirror stands")
-    ask = add("ask", command_ask, "ask the home (three words, or lines of JSON on standard input) or the store (--sparql)")
+    heal.add_argument("--all", action="store_true", help="ask the wiki for each entity that the home holds, which also finds deletions that were lost at any time")
+    heal.add_argument("--dump", metavar="DUMP", help="mend gaps by a newer dump, where the wiki has forgotten what changed")
+    heal.add_argument("--began", metavar="TIME", help="when this dump was begun")
+    add("status", command_status, "show how far the mirror is, and what is wrong")
+    ask = add("ask", command_ask, "ask the home (three terms, or lines of JSON on standard input) or the store (--sparql)")
     ask.add_argument("terms", nargs="*", metavar="TERM", help="subject, predicate and object: each ? or a term, as <http://www.wikidata.org/entity/Q42>")
     ask.add_argument("--sparql", metavar="QUERY", help="a question in SPARQL to the store")
     explain = add("explain", command_explain, "name the lines of an event file that wdq would refuse, and what mends them")
@@ -323,7 +337,7 @@ def make_parser() -> argparse.ArgumentParser:
         epilog=f"exit statuses:\n{statuses}",
         formatter_class=argparse.RawDescriptionHelpFormatter,
     )
-    parser.add_argument("--home", type=pathlib.Path, default=pathlib.Path(os.environ.get("WDQ_MIRROR", "wikidata")), metavar="FOLDER", help="the home")
+    parser.add_argument("--home", type=pathlib.Path, default=pathlib.Path(os.environ.get("WDQ_MIRROR", "wikidata")), metavar="FOLDER", help="the folder of the mirror (wikidata)")
     parser.add_argument("--version", action="version", version=__version__)
     add_words(parser.add_subparsers(metavar="COMMAND", required=True, dest="command"))
     return parser

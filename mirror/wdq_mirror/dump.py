@@ -73,6 +73,13 @@ def entities(name: str, settings: Settings, counts: collections.Counter[str]) ->
         raise BadInput(f"the dump {name} can't be read to its end ({error}): get it again") from None
 
 
+def put_page(pages: pathlib.Path, revision: int, body: bytes) -> None:
+    """Writes the page of a revision, whole or not at all."""
+    part = pages / f".{revision}.json.part"
+    part.write_bytes(body)
+    part.replace(pages / f"{revision}.json")
+
+
 def load(name: str, pages: pathlib.Path, events: pathlib.Path, began: str, settings: Settings) -> collections.Counter[str]:
     """Writes the pages and the events of a dump; says how many entities of each kind there were."""
     counts: collections.Counter[str] = collections.Counter()
@@ -80,9 +87,7 @@ def load(name: str, pages: pathlib.Path, events: pathlib.Path, began: str, setti
     try:
         with open(events, "w", encoding="utf-8") as out:
             for edit, line in entities(name, settings, counts):
-                part = pages / f".{edit['rev']}.json.part"
-                part.write_bytes(line)
-                part.replace(pages / f"{edit['rev']}.json")
+                put_page(pages, edit["rev"], line)
                 print(line_of(edit), file=out)
                 greatest = max(greatest, edit["time"][:19])
             mark = began or (greatest and greatest + "Z")

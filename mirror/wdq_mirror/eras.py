@@ -40,10 +40,10 @@ def end_of(path: pathlib.Path, start: Position) -> Position:
 
 def close(home: Home, number: int, position: Position) -> Era:
     """Closes an era whose records and snapshot are whole."""
-    mark, patches = snapshot.read_head(home.file("snapshots", number))
-    if patches != position.number:
-        raise Mismatch(f"the snapshot of era {number} ends at record {patches}, and its records at {position.number}: run the command again")
-    era = Era(number, position, text_of(mark) if mark is not None else "")
+    head = snapshot.read_head(home.file("snapshots", number))
+    if head.patches != position.number:
+        raise Mismatch(f"the snapshot of era {number} ends at record {head.patches}, and its records at {position.number}: run the command again")
+    era = Era(number, position, text_of(head.mark) if head.mark is not None else "")
     home.close_era(era)
     return era
 

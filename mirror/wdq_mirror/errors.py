@@ -3,9 +3,9 @@
 STATUSES = {
     0: "all is done",
     1: "verify found differences, or explain found lines that wdq refuses",
-    2: "the words or the settings are wrong, or a package or program is missing",
+    2: "an argument or a setting is wrong, or a package or program is missing",
     3: "the store, the wiki or a disk failed: run the command again",
-    4: "the store or the home isn't what the home has made: do what the message says",
+    4: "the store or the home isn't as the mirror left it: do what the message says",
     5: "the stream has a gap: run wdq-mirror heal",
     6: "wdq refused to go on: do what the message says",
     7: "a dump or an event file has bad lines",
@@ -20,7 +20,7 @@ class MirrorError(Exception):
 
 
 class Usage(MirrorError):
-    """The words or the settings are wrong, or something that the command needs isn't installed."""
+    """An argument or a setting is wrong, or something that the command needs isn't installed."""
 
     status = 2
 

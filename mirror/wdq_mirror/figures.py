@@ -5,6 +5,8 @@ import dataclasses
 import time
 import typing
 
+from .records import Record
+
 GAUGES = {
     "mark": "the greatest watermark, in seconds of Unix time",
     "era": "the number of the last closed era",
@@ -14,13 +16,13 @@ GAUGES = {
     "store_up": "1 if the store took the last update, else 0",
     "stream_up": "1 if the stream is connected, else 0",
     "gap": "how many gaps of the stream are open",
-    "in_doubt": "entities in doubt at the start of the era",
+    "in_doubt": "entities in doubt when wdq last saved",
     "fetching": "pages that are being fetched",
 }
 COUNTERS = {
     "events": "events of the stream",
     "late": "events that came too late",
-    "missing": "pages that weren't to be had",
+    "missing": "pages that couldn't be fetched",
     "reconciliations": "entities that the wiki was asked for",
     "records": "records of changes",
     "adds": "triples that came",
@@ -41,6 +43,12 @@ class Change:
     removes: int
     subject: str
 
+    @classmethod
+    def of(cls, record: Record) -> "Change":
+        """What a record changes."""
+        triple = (record.adds or record.removes)[0]
+        return cls(record.number, len(record.adds), len(record.removes), triple.subject.text)
+
 
 @dataclasses.dataclass
 class Figures:
@@ -60,6 +68,14 @@ class Figures:
     def set(self, name: str, value: float) -> None:
         """Sets a gauge."""
         self.gauges[name] = value
+
+    def note_record(self, change: Change, queue: int) -> None:
+        """Counts a record."""
+        for name, count in (("records", 1), ("adds", change.adds), ("removes", change.removes)):
+            self.add(name, count)
+        self.set("record", change.number)
+        self.set("queue", queue)
+        self.changes.appendleft(change)
 
     def note_mark(self, micros: int) -> None:
         """Sets the mark, and keeps its lag, a point each second at most."""

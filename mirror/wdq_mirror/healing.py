@@ -1,10 +1,11 @@
 """What the wiki is asked for: entities in doubt, and what changed in a gap of the stream. The answers are reconciliations."""
 
+import collections
 import datetime
 import sys
 import typing
 
-from . import snapshot
+from . import dump, snapshot
 from .errors import Gap
 from .home import GapRow, Home
 from .times import micros, now, text_of
@@ -16,9 +17,8 @@ NAMESPACES = "0|120|146"
 Event = dict[str, typing.Any]
 
 
-async def reconciliations(wiki: Wiki, entities: list[str], time: int, greatest: typing.Callable[[str], int]) -> list[Event]:
-    """What each entity is now, at a time. The wiki gives a deleted page no revision, so it gets the greatest one known."""
-    found = await wiki.present(entities)
+def reconciliations(found: dict[str, int], time: int, greatest: typing.Callable[[str], int]) -> list[Event]:
+    """What each entity is at a time, by its newest revision. The wiki gives a deleted page none, so it gets the greatest one known."""
     told = []
     for entity, revision in found.items():
         mode = "kept" if revision else "deleted"
@@ -31,19 +31,15 @@ def just_after(mark: typing.Optional[int]) -> int:
     return mark + 1 if mark is not None else now()
 
 
-async def settle_doubts(home: Home, wiki: Wiki, held: snapshot.Snapshot, era: int) -> list[Event]:
-    """Reconciliations of the entities in doubt. A page that can't be had is asked for after growing pauses."""
-    doubts = {doubt.entity: doubt for doubt in held.doubts()}
+def due_doubts(home: Home, held: snapshot.Snapshot, era: int) -> list[str]:
+    """The entities in doubt that the wiki should be asked for in an era, and keeps how often. The pauses grow."""
+    doubts = {doubt.entity for doubt in held.doubts()}
     times = dict(home.base.execute("SELECT entity, times FROM doubts"))
-    due = [entity for entity in doubts if era % 2 ** min(times.get(entity, 0), MOST_PAUSES) == 0]
-    if not due:
-        return []
-    told = await reconciliations(wiki, due, just_after(held.mark), held.greatest)
+    due = sorted(entity for entity in doubts if era % 2 ** min(times.get(entity, 0), MOST_PAUSES) == 0)
     with home.transaction():
         home.base.executemany("INSERT OR REPLACE INTO doubts VALUES (?, ?)", [(entity, times.get(entity, 0) + 1) for entity in due])
-        gone = [(entity,) for entity in times if entity not in doubts]
-        home.base.executemany("DELETE FROM doubts WHERE entity = ?", gone)
-    return closed(told)
+        home.base.executemany("DELETE FROM doubts WHERE entity = ?", [(entity,) for entity in times if entity not in doubts])
+    return due
 
 
 def closed(told: list[Event]) -> list[Event]:
@@ -51,13 +47,38 @@ def closed(told: list[Event]) -> list[Event]:
     return [*told, {"watermark": told[0]["time"]}] if told else []
 
 
-async def try_to_settle(home: Home, wiki: Wiki, held: snapshot.Snapshot, era: int) -> list[Event]:
-    """The same; where the wiki doesn't answer, a later era asks."""
+async def settle_doubts(home: Home, wiki: Wiki, held: snapshot.Snapshot, era: int) -> list[Event]:
+    """Reconciliations of the entities in doubt. Where the wiki doesn't answer, a later era asks."""
     try:
-        return await settle_doubts(home, wiki, held, era)
+        found = await wiki.present(due_doubts(home, held, era))
+        return closed(reconciliations(found, just_after(held.mark), held.greatest))
     except Unanswered as reason:
         print(f"wdq-mirror: {reason}; a later batch asks for what is in doubt", file=sys.stderr)
         return []
+
+
+def newer_in_dump(home: Home, name: str, held: snapshot.Snapshot) -> tuple[dict[str, int], list[str]]:
+    """The newest revision of each entity that a dump has newer than the home, their pages being put into the home; and the entities for which
+    the wiki has to be asked: those that the dump lacks, as they may be deleted, redirects, or newer, and those that only the home has deleted."""
+    newer: dict[str, int] = {}
+    there, doubtful = set(), set()
+    for edit, line in dump.entities(name, home.settings, collections.Counter()):
+        entity, revision = edit["entity"], edit["rev"]
+        record = held.records.get(entity)
+        there.add(entity)
+        if record is None or record.revision < revision:
+            dump.put_page(home.pages, revision, line)
+            newer[entity] = revision
+        elif record.state != "kept":
+            doubtful.add(entity)
+    doubtful |= {entity for entity, record in held.records.items() if record.state == "kept" and entity not in there}
+    return newer, sorted(doubtful)
+
+
+def differs(held: snapshot.Snapshot, entity: str, revision: int) -> bool:
+    """Whether an entity is another one than the home holds; its newest revision is 0 where its page isn't there."""
+    record = held.records.get(entity)
+    return bool(revision) if record is None or record.state != "kept" else record.held != revision
 
 
 async def changed_in(wiki: Wiki, gap: GapRow) -> set[str]:
@@ -82,7 +103,7 @@ async def changed_in_gaps(home: Home, wiki: Wiki, gaps: list[GapRow]) -> list[st
     found: set[str] = set()
     for gap in gaps:
         if days and micros(gap.began) < oldest:
-            raise Gap(f"the wiki remembers changes for {days} days, and a gap begins at {gap.began}: load a newer dump into a new home")
+            raise Gap(f"the wiki remembers changes for {days} days, and a gap began at {gap.began}: heal it by a newer dump (wdq-mirror heal --dump)")
         try:
             found |= await changed_in(wiki, gap)
         except Unanswered as reason:

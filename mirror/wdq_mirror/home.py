@@ -20,7 +20,7 @@ SCHEMA = """
 CREATE TABLE IF NOT EXISTS facts (name TEXT PRIMARY KEY, value TEXT NOT NULL);
 CREATE TABLE IF NOT EXISTS eras (number INTEGER PRIMARY KEY, record INTEGER NOT NULL, digest TEXT NOT NULL, mark TEXT NOT NULL);
 CREATE TABLE IF NOT EXISTS gaps (number INTEGER PRIMARY KEY AUTOINCREMENT, began TEXT NOT NULL, ended TEXT NOT NULL, healed INTEGER NOT NULL);
-CREATE TABLE IF NOT EXISTS given_up (revision TEXT PRIMARY KEY, entity TEXT NOT NULL, era INTEGER NOT NULL);
+CREATE TABLE IF NOT EXISTS lacking (revision TEXT PRIMARY KEY, entity TEXT NOT NULL, time INTEGER NOT NULL, era INTEGER NOT NULL);
 CREATE TABLE IF NOT EXISTS doubts (entity TEXT PRIMARY KEY, times INTEGER NOT NULL);
 """
 FOLDERS = ("pages", "events", "records", "snapshots")
@@ -31,6 +31,14 @@ class Position(typing.NamedTuple):
 
     number: int
     digest: str
+
+
+class Wanted(typing.NamedTuple):
+    """A page that an event needs, and the event's time in microseconds."""
+
+    revision: int
+    entity: str
+    time: int
 
 
 @dataclasses.dataclass(frozen=True)
@@ -75,6 +83,7 @@ class Home:
             "mirror.stream": mirror.stream,
             "mirror.graph": mirror.graph,
             "mirror.counts": "true" if mirror.counts else "false",
+            "mirror.articles": mirror.articles,
             "mirror.horizon_hours": str(mirror.horizon_hours),
             "mirror.shard": mirror.shard,
             "wiki.name": self.settings.wiki.name,
@@ -87,7 +96,8 @@ class Home:
         if not self.eras_exist():
             return
         for name, now in self.fixed().items():
-            before = self.fact(name)
+            # The first homes had one spelling of articles.
+            before = self.fact(name) or ("wdq" if name == "mirror.articles" else None)
             if before is not None and before != now:
                 raise Mismatch(
                     f"{name} is {now} in {settings_of.FILE}, but this home was made with {before}: set it back, "
@@ -135,7 +145,7 @@ class Home:
         """Adds a closed era, and forgets the pages that it gave up."""
         with self.transaction():
             self.base.execute("INSERT INTO eras VALUES (?, ?, ?, ?)", (era.number, *era.position, era.mark))
-            self.base.execute("DELETE FROM given_up WHERE era <= ?", (era.number,))
+            self.base.execute("DELETE FROM lacking WHERE era <= ?", (era.number,))
 
     @contextlib.contextmanager
     def transaction(self) -> typing.Iterator[None]:
@@ -160,17 +170,22 @@ class Home:
 
     # --- Pages that an open era has gone without ---
 
-    def give_up(self, revision: int, entity: str, era: int) -> None:
+    def give_up(self, page: Wanted, era: int) -> None:
         """Keeps that an era goes without a page, so that a second run of the era does too."""
-        self.base.execute("INSERT OR REPLACE INTO given_up VALUES (?, ?, ?)", (str(revision), entity, era))
+        words = "INSERT INTO lacking VALUES (?, ?, ?, ?) ON CONFLICT (revision) DO UPDATE SET time = max(time, excluded.time), era = excluded.era"
+        self.base.execute(words, (str(page.revision), page.entity, page.time, era))
+
+    def keep_lacking(self, mark: int, era: int) -> None:
+        """Leaves the pages of events behind a mark to the next era, since wdq goes on with it in the same run."""
+        self.base.execute("UPDATE lacking SET era = ? WHERE time > ?", (era, mark))
 
     def is_given_up(self, revision: int) -> bool:
         """Whether the open era goes without a page."""
-        return self.base.execute("SELECT 1 FROM given_up WHERE revision = ?", (str(revision),)).fetchone() is not None
+        return self.base.execute("SELECT 1 FROM lacking WHERE revision = ?", (str(revision),)).fetchone() is not None
 
     def goes_without_pages(self) -> bool:
         """Whether the open era goes without any page."""
-        return self.base.execute("SELECT 1 FROM given_up LIMIT 1").fetchone() is not None
+        return self.base.execute("SELECT 1 FROM lacking LIMIT 1").fetchone() is not None
 
     # --- Gaps and doubts ---
 

@@ -5,6 +5,7 @@ import pathlib
 import typing
 
 from . import dump, files, snapshot
+from .articles import Articles
 from .counts import Counts
 from .errors import BadInput, Mismatch, ProgramFailed, Unreachable, Usage
 from .home import Era, Home, Position
@@ -29,9 +30,9 @@ async def load_dump(home: Home, program: Program, name: str, began: str, allow_f
     words = ["replay", "--from", str(home.pages), "--max-bytes", str(2**40), *program.limits(), "--save", str(part)]
     await program.run(words, events, None)
     files.put(part, saved)
-    mark, _ = snapshot.read_head(saved)
+    head = snapshot.read_head(saved)
     home.fix_facts()
-    home.close_era(Era(0, Position(0, f"base of {home.identity}"), text_of(mark) if mark is not None else ""))
+    home.close_era(Era(0, Position(head.patches, f"base of {home.identity}"), text_of(head.mark) if head.mark is not None else ""))
     if home.settings.program.keep_eras:
         # The snapshot has them, but for those that wait.
         waiting = {f"{event['rev']}.json" for event in snapshot.read(saved).waiting}
@@ -70,16 +71,17 @@ async def export(home: Home, program: Program, era: Era) -> typing.AsyncIterator
 class Speller:
     """Spells triples as the store gets them, each value once, and counts."""
 
-    def __init__(self, counts: typing.Optional[Counts]):
-        self.counts = counts
+    def __init__(self, articles: Articles, counts: typing.Optional[Counts]):
+        self.articles, self.counts = articles, counts
         self.subject_predicate: tuple[str, str] = ("", "")
         self.values: dict[str, tuple[int, str]] = {}
         self.rows: list[tuple[str, int, str]] = []
 
     def take(self, line: str) -> list[str]:
         """Takes the next triple, in the order of subject and predicate; gives the lines that are whole now."""
-        if "\\" not in line and (not self.counts or ('"' not in line and len(line) < LONGEST_IRI)):
-            # The store gets it as it is, which is most of them.
+        line = self.articles.line(line)
+        if "\\" not in line and line.isprintable() and (not self.counts or ('"' not in line and len(line) < LONGEST_IRI)):
+            # The store gets it as it is, which is most of them; controls, as tabs, are escaped.
             return [line]
         triple = read_triple(line)
         found = canonical(triple.object) if self.counts else None
@@ -111,7 +113,7 @@ class Speller:
 
 async def write_triples(home: Home, program: Program, era: Era, target: pathlib.Path, counts: typing.Optional[Counts]) -> int:
     """Writes the triples of an era as the store gets them; says how many lines there are."""
-    speller, written = Speller(counts), 0
+    speller, written = Speller(home.settings.articles, counts), 0
     try:
         with open(target, "w", encoding="utf-8", newline="\n", buffering=2**20) as out, Progress("triples") as progress:
             async for line in export(home, program, era):

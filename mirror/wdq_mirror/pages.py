@@ -8,16 +8,18 @@ import sys
 import typing
 
 from . import files
-from .home import Home
+from .home import Home, Wanted
+from .times import micros
 from .wiki import Unanswered, Wiki
 
 API_CONTENT = {"prop": "revisions", "rvprop": "content", "rvslots": "main"}
+AT_ONCE = 1000
 
 
-def wanted(event: dict[str, typing.Any]) -> typing.Optional[tuple[int, str]]:
-    """The revision that an event needs, with its entity."""
+def wanted(event: dict[str, typing.Any]) -> typing.Optional[Wanted]:
+    """The page that an event needs."""
     if event.get("kind") in ("edit", "undelete") or (event.get("kind") == "reconcile" and event["mode"] == "kept"):
-        return event["rev"], event["entity"]
+        return Wanted(event["rev"], event["entity"], micros(event["time"]))
     return None
 
 
@@ -59,37 +61,73 @@ class Pages:
         """The file of a revision."""
         return self.home.pages / f"{revision}.json"
 
-    async def take(self, revision: int, entity: str, era: int) -> None:
-        """Sees to it that a revision's page is there, or that the era goes without it. Of several calls one fetches."""
-        while revision in self.under_way:
-            await self.under_way[revision].wait()
-        settled = self.under_way[revision] = asyncio.Event()
+    async def take(self, page: Wanted, era: int) -> None:
+        """Sees to it that a page is there, or that the era goes without it. Of several calls one fetches."""
+        while page.revision in self.under_way:
+            await self.under_way[page.revision].wait()
+        settled = self.under_way[page.revision] = asyncio.Event()
         try:
-            await self.settle(revision, entity, era)
+            await self.settle(page, era)
         finally:
-            del self.under_way[revision]
+            del self.under_way[page.revision]
             settled.set()
 
-    async def settle(self, revision: int, entity: str, era: int) -> None:
+    async def settle(self, page: Wanted, era: int) -> None:
         """Fetches a page where it isn't there."""
-        path = self.path(revision)
+        path = self.path(page.revision)
         # After a power failure a page that wasn't on the disk yet may be empty.
         if path.exists() and path.stat().st_size:
             self.counts["there already"] += 1
-        elif self.home.is_given_up(revision):
+        elif self.home.is_given_up(page.revision):
+            # An event that is later may need it longer.
+            self.home.give_up(page, era)
             self.counts["given up before"] += 1
         else:
             try:
-                body = await fetch(self.wiki, entity, revision)
+                body = await fetch(self.wiki, page.entity, page.revision)
                 await asyncio.to_thread(files.save, path, body)
                 self.counts["fetched"] += 1
             except Unanswered as reason:
-                print(f"wdq-mirror: {entity} {revision}: {reason}", file=sys.stderr)
-                self.home.give_up(revision, entity, era)
+                print(f"wdq-mirror: {page.entity} {page.revision}: {reason}", file=sys.stderr)
+                self.home.give_up(page, era)
                 self.counts["not to be had"] += 1
 
     async def take_all(self, events: typing.Iterable[dict[str, typing.Any]], era: int) -> None:
         """Sees to the pages of all events, a thousand at a time."""
-        rest = list(dict(found for event in events if (found := wanted(event))).items())
-        for start in range(0, len(rest), 1000):
-            await asyncio.gather(*(self.take(revision, entity, era) for revision, entity in rest[start : start + 1000]))
+        # Of several events with one revision the last one needs its page longest.
+        found = {page.revision: page for page in sorted(filter(None, map(wanted, events)), key=lambda page: page.time)}
+        rest = list(found.values())
+        for start in range(0, len(rest), AT_ONCE):
+            await asyncio.gather(*(self.take(page, era) for page in rest[start : start + AT_ONCE]))
+
+
+class Fetching:
+    """The pages that are being fetched for the live service, each with the time of its event."""
+
+    def __init__(self, pages: Pages):
+        self.pages = pages
+        self.tasks: dict[asyncio.Task[None], int] = {}
+
+    def __len__(self) -> int:
+        return len(self.tasks)
+
+    def begin(self, events: list[dict[str, typing.Any]], mark: int, era: int) -> None:
+        """Begins to fetch the pages of events behind the mark, which aren't applied yet."""
+        for page in filter(None, map(wanted, events)):
+            if page.time > mark:
+                self.tasks[asyncio.create_task(self.pages.take(page, era))] = page.time
+
+    def check(self) -> None:
+        """Takes out what is done; raises what a fetch raised."""
+        for task in [task for task in self.tasks if task.done()]:
+            del self.tasks[task]
+            task.result()
+
+    def hold_back(self, mark: int) -> int:
+        """The mark, or an earlier one that no page under way is needed for."""
+        return min([mark, *(time - 1 for time in self.tasks.values())])
+
+    def cancel(self) -> None:
+        """Ends all."""
+        for task in self.tasks:
+            task.cancel()

@@ -31,19 +31,19 @@ def failure(status: int, said: str) -> MirrorError:
 
 
 def find(settings: Settings) -> str:
-    """The program: that of the settings or of WDQ, else that of the checkout, else that on PATH."""
+    """The program: that of the settings or of WDQ, else that of the checkout or of the installation, else that on PATH."""
     named = settings.program.path or os.environ.get("WDQ", "")
     if named:
         if not os.access(named, os.X_OK):
-            raise Usage(f"program.path is {named}, which is no program")
+            raise Usage(f"program.path is {named}, which can't be run")
         return named
-    checkout = pathlib.Path(__file__).resolve().parents[2]
-    for candidate in (checkout / "crates/wdq/out/wdq", checkout / "wdq"):
-        if os.access(candidate, os.X_OK):
+    above = pathlib.Path(__file__).resolve().parents
+    for candidate in (above[2] / "crates/wdq/out/wdq", above[2] / "wdq", above[3] / "libexec/wdq/wdq"):
+        if candidate.is_file() and os.access(candidate, os.X_OK):
             return str(candidate)
     found = shutil.which("wdq")
     if not found:
-        raise Usage("wdq is neither in this checkout nor on PATH: install it (./install.sh), or set program.path")
+        raise Usage("wdq is neither beside wdq-mirror nor on PATH: install it, or set program.path")
     return found
 
 

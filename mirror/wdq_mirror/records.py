@@ -37,7 +37,7 @@ class Reader:
         if not self.rest:
             head = HEAD.fullmatch(line)
             if not head:
-                raise Mismatch(f"wdq printed {line[:60]!r} where the head of a record is due: use the wdq of this version")
+                raise Mismatch(f"wdq printed {line[:60]!r} where the head of a record is expected: use the wdq that came with this wdq-mirror")
             self.number, self.adds, removes = map(int, head.groups())
             self.rest, self.lines = self.adds + removes, [line]
         else:
@@ -50,7 +50,7 @@ class Reader:
         try:
             triples = [read_triple(line.decode()) for line in self.lines[1:]]
         except ValueError as fault:
-            raise Mismatch(f"record {self.number} has a line that is no triple: {fault}") from None
+            raise Mismatch(f"record {self.number} has a line that is not a triple: {fault}") from None
         return Record(self.number, triples[: self.adds], triples[self.adds :], b"\n".join(self.lines) + b"\n")
 
 

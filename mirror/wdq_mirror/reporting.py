@@ -8,7 +8,12 @@ from .home import Home
 from .stores import Marks, Store
 from .times import micros, now
 
-CAUSES = {"late": "its event came too late", "missing": "its page wasn't to be had", "failed": "its page couldn't be read"}
+CAUSES = {"late": "its event came too late", "missing": "its page couldn't be fetched", "failed": "its page couldn't be read"}
+
+
+def cause_of(cause: str) -> str:
+    """Why an entity is in doubt."""
+    return CAUSES.get(cause, f"its page is unfit: {cause}")
 
 
 def lag_of(mark: str) -> str:
@@ -27,12 +32,12 @@ async def report(home: Home, store: Store) -> int:
     held = snapshot.read(home.file("snapshots", era.number))
     print(f"home       {home.path}, era {era.number}, record {era.position.number}, entities {len(held.records)}")
     print(f"up to      {era.mark}, {lag_of(era.mark)} ago" if era.mark else "up to      no watermark yet")
-    print(f"graph      {home.settings.mirror.graph}, counts {'on' if home.settings.mirror.counts else 'off'}, shard {home.settings.mirror.shard}")
+    print(f"graph      {home.settings.mirror.graph}, counts {'on' if home.settings.mirror.counts else 'off'}, articles as {home.settings.mirror.articles}, shard {home.settings.mirror.shard}")
     print(f"remembers  events for {home.settings.mirror.horizon_hours} hours")
     doubts = held.doubts()
     print(f"in doubt   {len(doubts)} entities, which the next batches ask the wiki for")
     for doubt in doubts[:10]:
-        print(f"           {doubt.entity} revision {doubt.revision}: {CAUSES.get(doubt.cause, 'its page is unfit: ' + doubt.cause)}")
+        print(f"           {doubt.entity} revision {doubt.revision}: {cause_of(doubt.cause)}")
     for gap in home.gaps():
         print(f"gap        {gap.began} to {gap.ended}: wdq-mirror heal mends it")
     try:

@@ -33,7 +33,7 @@ def check_place(home: Home, marks: Marks) -> None:
     """Refuses a store whose records were others, where an era of the home ends at its place."""
     for era in home.eras():
         if era.position.number == marks.position.number and era.position.digest != marks.position.digest:
-            raise Mismatch(f"the store's records up to {marks.position.number} were others than this home's: {RELOAD}")
+            raise Mismatch(f"the store's records up to {marks.position.number} differ from this home's: {RELOAD}")
 
 
 class Sender:
@@ -42,6 +42,7 @@ class Sender:
     def __init__(self, home: Home, store: Store, marks: Marks, start: Position):
         self.home, self.store, self.marks, self.place = home, store, marks, start
         self.counts = Counts(home.path / "counts.db", home.identity) if home.settings.mirror.counts else None
+        self.articles = home.settings.articles
         self.changes: dict[str, bool] = {}
         self.records = 0
         least = marks.position.number
@@ -64,12 +65,12 @@ class Sender:
         self.place = record.after(self.place)
         applied = self.marks.position
         if record.number == applied.number and self.place.digest != applied.digest:
-            raise Mismatch(f"the store's records up to {record.number} were others than this home's: {RELOAD}")
+            raise Mismatch(f"the store's records up to {record.number} differ from this home's: {RELOAD}")
         if record.number <= self.counted:
             return
         self.records += 1
         for triples, is_added in ((record.removes, False), (record.adds, True)):
-            for triple in triples:
+            for triple in map(self.articles.triple, triples):
                 line = self.counts.change(triple, is_added) if self.counts else triple.sparql()
                 if line and record.number > applied.number:
                     self.changes[line] = is_added

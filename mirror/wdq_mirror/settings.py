@@ -8,11 +8,13 @@ import re
 import tomllib
 import typing
 
+from .articles import SPELLINGS, Articles
 from .errors import Usage
 
 FILE = "mirror.toml"
 NO_IRI = re.compile(r'[\x00-\x20<>"{}|^`\\]')
 KINDS = ("embedded", "sparql")
+TYPES = {bool: "true or false", int: "a whole number", float: "a number", str: "a text in quotes"}
 LOADERS = ("updates", "graph-store", "virtuoso")
 
 
@@ -28,6 +30,7 @@ class Mirror:
     stream: str = about("urn:wdq:stream", "the IRI under which the store keeps the number of the last record; another one for each shard")
     graph: str = about("urn:wdq:triples", "the graph of the triples; another one for each shard")
     counts: bool = about(False, "count the triples of each value: needed by stores that spell numbers or points their own way, as Virtuoso")
+    articles: str = about("wdq", "how articles' IRIs are spelled: wdq (Berlin_%28city%29), or service, as the Wikidata Query Service has them (Berlin_(city))")
     horizon_hours: int = about(24, "how many hours wdq remembers events, to know repeats")
     shard: str = about("0/1", "K/N: only the entities whose number is K modulo N")
 
@@ -101,10 +104,20 @@ class Settings:
         part, parts = self.mirror.shard.split("/")
         return int(part), int(parts)
 
+    @property
+    def articles(self) -> Articles:
+        """The spelling of articles."""
+        return Articles(self.mirror.articles)
+
     def has(self, entity: str) -> bool:
         """Whether an entity belongs to this shard."""
         part, parts = self.shard
         return int(entity[1:]) % parts == part
+
+
+def shown(value: typing.Any) -> str:
+    """A value as the file has it."""
+    return json.dumps(value, ensure_ascii=False, default=str)
 
 
 def near(word: str, words: typing.Iterable[str]) -> str:
@@ -116,16 +129,16 @@ def near(word: str, words: typing.Iterable[str]) -> str:
 def read_section(name: str, section: typing.Any, values: typing.Any) -> None:
     """Fills in a section from what the file has."""
     if not isinstance(values, dict):
-        raise Usage(f"{name} in {FILE} is no section: write [{name}]")
+        raise Usage(f"{name} in {FILE} is not a section: write [{name}]")
     fields = {field.name: field for field in dataclasses.fields(section)}
     for key, value in values.items():
         if key not in fields:
-            raise Usage(f"{FILE} has {name}.{key}, which is no setting{near(key, fields)}")
+            raise Usage(f"{FILE} has {name}.{key}, which is not a setting{near(key, fields)}")
         wanted = type(fields[key].default)
         if wanted is float and type(value) is int:
             value = float(value)
         if type(value) is not wanted:
-            raise Usage(f"{name}.{key} in {FILE} is {value!r}, and should be of the kind of {fields[key].default!r}")
+            raise Usage(f"{name}.{key} in {FILE} is {shown(value)}, and should be {TYPES[wanted]}, as {shown(fields[key].default)}")
         setattr(section, key, value)
 
 
@@ -141,6 +154,8 @@ def check(settings: Settings) -> None:
     match = re.fullmatch(r"(\d{1,9})/(\d{1,9})", mirror.shard)
     if not match or int(match[1]) >= int(match[2]):
         raise Usage(f"mirror.shard is {mirror.shard!r}, and should be K/N with K from 0 to N - 1")
+    if mirror.articles not in SPELLINGS:
+        raise Usage(f"mirror.articles is {mirror.articles!r}, and should be one of {', '.join(SPELLINGS)}{near(mirror.articles, SPELLINGS)}")
     if store.kind not in KINDS:
         raise Usage(f"store.kind is {store.kind!r}, and should be one of {', '.join(KINDS)}{near(store.kind, KINDS)}")
     if store.loader not in LOADERS:
@@ -173,12 +188,12 @@ def parse(text: str) -> Settings:
     try:
         values = tomllib.loads(text)
     except tomllib.TOMLDecodeError as error:
-        raise Usage(f"{FILE} is no TOML: {error}") from None
+        raise Usage(f"{FILE} isn't valid TOML: {error}") from None
     settings = Settings()
     sections = {field.name: getattr(settings, field.name) for field in dataclasses.fields(settings)}
     for name, section in values.items():
         if name not in sections:
-            raise Usage(f"{FILE} has the section [{name}], which is none{near(name, sections)}")
+            raise Usage(f"{FILE} has the section [{name}], which isn't known{near(name, sections)}")
         read_section(name, sections[name], section)
     check(settings)
     return settings
@@ -189,7 +204,7 @@ def read(home: pathlib.Path) -> Settings:
     try:
         return parse((home / FILE).read_text(encoding="utf-8"))
     except FileNotFoundError:
-        raise Usage(f"{home} is no home of a mirror, since {home / FILE} isn't there: wdq-mirror init makes one") from None
+        raise Usage(f"{home} isn't the home of a mirror, since {home / FILE} isn't there: wdq-mirror init makes one") from None
     except (OSError, UnicodeDecodeError) as error:
         raise Usage(f"{home / FILE} can't be read: {error}") from None
 
@@ -201,5 +216,5 @@ def write(settings: Settings) -> str:
         section = getattr(settings, part.name)
         text += f"\n[{part.name}]\n"
         for field in dataclasses.fields(section):
-            text += f"# {field.metadata['about']}\n{field.name} = {json.dumps(getattr(section, field.name), ensure_ascii=False)}\n"
+            text += f"# {field.metadata['about']}\n{field.name} = {shown(getattr(section, field.name))}\n"
     return text

@@ -35,6 +35,15 @@ class Doubt:
     revision: int
 
 
+class Head(typing.NamedTuple):
+    """The head of a snapshot: its mark, and how many records and lines led to it, those of earlier runs too."""
+
+    mark: typing.Optional[int]
+    patches: int
+    # 0 in formats that don't have it, from which wdq counts on.
+    lines: int
+
+
 @dataclasses.dataclass
 class Snapshot:
     """The head, the entries and the records of a snapshot."""
@@ -113,11 +122,11 @@ def read(path: pathlib.Path) -> Snapshot:
     raise Mismatch(f"{path} isn't whole: restore a backup (wdq-mirror restore)")
 
 
-def read_head(path: pathlib.Path) -> tuple[typing.Optional[int], int]:
-    """The mark and the number of records of a snapshot."""
+def read_head(path: pathlib.Path) -> Head:
+    """The head of a snapshot."""
     try:
         with open(path, "rb") as file:
             head = read_line(file.readline())
-        return head["mark"], head["patches"]
+        return Head(head["mark"], head["patches"], head.get("lines", 0))
     except (OSError, ValueError, KeyError) as error:
         raise Mismatch(f"{path} can't be read ({error}): restore a backup (wdq-mirror restore)") from None

@@ -11,12 +11,12 @@ import typing
 from . import eras, files, healing, sending, snapshot
 from .errors import BadInput, Usage
 from .event_lines import lines_of, refusal_of
-from .home import Era, Home
+from .home import Era, GapRow, Home
 from .pages import Pages
 from .program import Program
 from .stores import Store
 from .stream import Stream, is_gap, line_of
-from .times import now, text_of
+from .times import micros, now, text_of
 from .wiki import Wiki
 
 Event = dict[str, typing.Any]
@@ -55,6 +55,11 @@ def place_of(home: Home) -> tuple[str, int, str]:
     """Where the stream goes on: the last message's place, the greatest time so far, and where to begin if there is no place."""
     place, seen = home.fact("place") or "", int(home.fact("seen") or 0)
     return place, seen, home.fact("since") or home.last_era().mark
+
+
+def held_by(home: Home) -> snapshot.Snapshot:
+    """The snapshot of the last era."""
+    return snapshot.read(home.file("snapshots", home.last_era().number))
 
 
 async def collect(home: Home, wiki: Wiki, limits: Limits) -> Batch:
@@ -112,7 +117,8 @@ def take_file(home: Home, number: int, front: list[Event], path: pathlib.Path) -
 
 
 async def finish_open_eras(tools: Tools) -> None:
-    """Runs the eras whose events are there and which were cut short."""
+    """Runs the era that was cut short, from its events. What is there of the one behind it is a copy of its last lines."""
+    tools.home.file("events", tools.home.last_era().number + 2).unlink(missing_ok=True)
     while tools.home.file("events", number := tools.home.last_era().number + 1).exists():
         await eras.run(tools.home, tools.program, tools.pages, number)
 
@@ -127,19 +133,34 @@ async def heal(tools: Tools) -> int:
     return await take_present(tools, entities, gaps)
 
 
-async def take_present(tools: Tools, entities: list[str], gaps: list[typing.Any]) -> int:
-    """Takes what each of these entities is now, as an era of its own, after which gaps are healed."""
-    home = tools.home
-    last = home.last_era()
-    held = snapshot.read(home.file("snapshots", last.number))
-    time_of_all = healing.just_after(held.mark)
-    events = healing.closed(await healing.reconciliations(tools.wiki, entities, time_of_all, held.greatest))
-    if events:
-        lines = [line_of(event) for event in events]
-        files.save(home.file("events", last.number + 1), "".join(line + "\n" for line in lines).encode())
-        await eras.run(home, tools.program, tools.pages, last.number + 1)
-    home.heal_gaps(gap.number for gap in gaps)
+async def take_present(tools: Tools, entities: list[str], gaps: list[GapRow]) -> int:
+    """Takes what each of these entities is now, and heals gaps by that."""
+    await take_newest(tools, held_by(tools.home), await tools.wiki.present(entities), gaps)
     return len(entities)
+
+
+async def take_newest(tools: Tools, held: snapshot.Snapshot, found: dict[str, int], gaps: list[GapRow]) -> None:
+    """Takes the newest revision of each entity as an era of its own, after which gaps are healed."""
+    home, number = tools.home, tools.home.last_era().number + 1
+    events = healing.closed(healing.reconciliations(found, healing.just_after(held.mark), held.greatest))
+    if events:
+        files.save(home.file("events", number), b"".join(line_of(event).encode() + b"\n" for event in events))
+        await eras.run(home, tools.program, tools.pages, number)
+    home.heal_gaps(gap.number for gap in gaps)
+
+
+async def heal_by_dump(tools: Tools, name: str, began: str) -> tuple[int, int]:
+    """Heals the gaps that ended before a dump was begun; says how many entities are newer in it, and for how many the wiki was asked."""
+    home = tools.home
+    gaps = [gap for gap in home.gaps() if micros(gap.ended) <= micros(began)]
+    if home.gaps() and not gaps:
+        raise Usage(f"the dump was begun at {began}, and the first gap ends at {home.gaps()[0].ended}: get a newer dump")
+    held = held_by(home)
+    newer, doubtful = healing.newer_in_dump(home, name, held)
+    asked = await tools.wiki.present(doubtful)
+    different = {entity: revision for entity, revision in asked.items() if healing.differs(held, entity, revision)}
+    await take_newest(tools, held, newer | different, gaps)
+    return len(newer), len(doubtful)
 
 
 async def prepare(tools: Tools) -> None:
@@ -151,8 +172,7 @@ async def prepare(tools: Tools) -> None:
 
 async def heal_all(tools: Tools) -> int:
     """Asks the wiki for each entity that the home holds; gaps are healed by that, but for entities that were made in them."""
-    held = snapshot.read(tools.home.file("snapshots", tools.home.last_era().number))
-    entities = set(held.records)
+    entities = set(held_by(tools.home).records)
     if tools.home.gaps():
         entities |= set(await healing.changed_in_gaps(tools.home, tools.wiki, tools.home.gaps()))
     return await take_present(tools, sorted(entities), tools.home.gaps())
@@ -164,9 +184,8 @@ async def step(tools: Tools, path: typing.Optional[pathlib.Path], limits: Limits
     await prepare(tools)
     await heal(tools)
     last = home.last_era()
-    held = snapshot.read(home.file("snapshots", last.number))
-    number = last.number + 1
-    front = await healing.try_to_settle(home, tools.wiki, held, number)
+    held, number = held_by(home), last.number + 1
+    front = await healing.settle_doubts(home, tools.wiki, held, number)
     if path:
         take_file(home, number, front, path)
     else:

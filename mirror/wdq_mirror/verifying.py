@@ -107,7 +107,7 @@ async def verify(home: Home, program: Program, store: Store) -> Found:
     size, known = 0, set()
     with Progress("triples") as progress:
         async for line in loading.export(home, program, era):
-            triple = read_triple(line.decode())
+            triple = read_triple(home.settings.articles.line(line.decode()))
             subject = triple.subject.text
             if size >= IN_PAGE and subject not in page:
                 await comparison.page(page)
