@@ -12,6 +12,7 @@ size=${1:-2000}
 LC_ALL=C
 export LC_ALL
 
+/usr/bin/python3 -B ./test_take_parts.py || exit 1
 for needed in jq redis-server redis-cli; do
   command -v $needed > /dev/null || { echo "passed over: $needed is missing"; exit 0; }
 done
@@ -55,8 +56,8 @@ start() {
 }
 for process in 1 2 3 4; do start $process; done
 
-# One process is killed once its part has a snapshot.
-while [ "$(find "$work/snapshots" -name '*-*' | wc -l)" -lt $parts ]; do sleep 0.1; done
+# One process is killed once each part has a snapshot.
+while [ "$(find "$work/snapshots" -name '*-*' ! -name '*.*' | wc -l)" -lt $parts ]; do sleep 0.1; done
 owner=
 while [ -z "$owner" ]; do
   owner=$(ask get owner:2)

@@ -5,17 +5,21 @@ The events of part K are the entries of the Redis stream `events:K`, each with o
 lines, gives them to `wdq patches`, which goes on from the part's snapshot, and adds the records to the stream `records:K`. A thread renews
 the lease, also while wdq runs. The lease of a process that died ends, so another process takes the part over and goes on from its snapshot.
 
-A snapshot's name is the id of the last entry that it knows, so snapshot and offset change at once. A record's number is its id in
-`records:K`, and Redis refuses an id that isn't above the last one: if a process is killed between its records and its snapshot, the
-next one makes the same records again, and none is added twice. The entry `{"end":true}` ends a part.
+A step's folder has the snapshot and the records that led to it, and its name is the id of the last entry that it knows, so snapshot,
+records and offset change at once, and only the first of several processes can give the name. Records are added to `records:K` only once
+their step has its name: those of a step that was never finished, which may differ if a fetch failed, are in no stream. A record's number
+is its id there, and Redis refuses an id that isn't above the last one, so if a process is killed while it adds records, the next one adds
+the rest, and none is added twice. The entry `{"end":true}` ends a part.
 
 Status 0: all parts have ended. 1: wdq or Redis failed. 69: Debian's package python3-redis is missing.
 """
 
 import argparse
+import errno
 import os
 import pathlib
 import re
+import shutil
 import subprocess
 import sys
 import threading
@@ -46,10 +50,15 @@ def words():
     return parser.parse_args()
 
 
+def ids_of(name):
+    """The two numbers of an entry's id."""
+    return tuple(map(int, name.split("-")))
+
+
 def newest(folder):
-    """The last snapshot of a part, and the id of the entry that it ends with."""
+    """The last step of a part, and the id of the entry that it ends with."""
     ids = [path.name for path in folder.iterdir() if re.fullmatch(r"\d+-\d+", path.name)]
-    last = max(ids, key=lambda text: tuple(map(int, text.split("-"))), default=None)
+    last = max(ids, key=ids_of, default=None)
     return (folder / last, last) if last else (None, "0-0")
 
 
@@ -67,6 +76,7 @@ class Part:
         self.given, self.server, self.number = given, server, number
         self.folder = given.work / str(number)
         self.folder.mkdir(parents=True, exist_ok=True)
+        self.published = None
 
     def is_held(self):
         """Renews the lease, and tells whether it is still this process's."""
@@ -88,8 +98,8 @@ class Part:
             while self.is_held() and not self.server.exists(f"ended:{self.number}"):
                 if not self.step():
                     time.sleep(0.05)
-        except subprocess.CalledProcessError:
-            # Whoever took the part over has removed the snapshot that wdq was to go on from.
+        except (subprocess.CalledProcessError, FileNotFoundError):
+            # Whoever took the part over has removed the step that this process was to go on from.
             if self.is_held():
                 raise
         finally:
@@ -97,7 +107,9 @@ class Part:
 
     def step(self):
         """Takes the next lines; tells whether there were any."""
-        snapshot, offset = newest(self.folder)
+        before, offset = newest(self.folder)
+        if before:
+            self.publish(before)
         answer = self.server.xread({f"events:{self.number}": offset}, count=self.given.batch)
         if not answer:
             return False
@@ -107,22 +119,40 @@ class Part:
         if is_last:
             entries, lines = entries[:-1], lines[:-1]
         if entries:
-            self.replay(snapshot, entries[-1][0].decode(), b"".join(line + b"\n" for line in lines))
+            self.replay(before, entries[-1][0].decode(), b"".join(line + b"\n" for line in lines))
+            self.publish(newest(self.folder)[0])
         if is_last:
             self.server.set(f"ended:{self.number}", 1)
         return True
 
-    def replay(self, snapshot, offset, lines):
-        """Goes on from the snapshot over these lines: adds the records, and then gives the new snapshot its name."""
+    def replay(self, before, offset, lines):
+        """Goes on from a step's snapshot over these lines, and gives the new snapshot its name, with its records."""
         beside = self.folder / f"{offset}.{OWNER}"
-        command = [self.given.program, "patches", "--from", self.given.pages, "--save", str(beside)]
-        command += ["--resume", str(snapshot)] if snapshot else []
-        output = subprocess.run(command, input=lines, stdout=subprocess.PIPE, check=True).stdout
-        for number, record in records_of(output):
+        beside.mkdir()
+        command = [self.given.program, "patches", "--from", self.given.pages, "--save", str(beside / "snapshot")]
+        command += ["--resume", str(before / "snapshot")] if before else []
+        try:
+            with open(beside / "records", "wb") as records:
+                subprocess.run(command, input=lines, stdout=records, check=True)
+            # A folder that isn't empty can't be replaced: if another process has named this step, its records are those that count.
+            try:
+                beside.rename(self.folder / offset)
+            except OSError as error:
+                if error.errno not in (errno.EEXIST, errno.ENOTEMPTY):
+                    raise
+        finally:
+            shutil.rmtree(beside, ignore_errors=True)
+
+    def publish(self, step):
+        """Adds the records of a step that has its name, unless that is done, and then removes the steps before it."""
+        if step.name == self.published:
+            return
+        for number, record in records_of((step / "records").read_bytes()):
             self.add(number, record)
-        os.replace(beside, self.folder / offset)
-        if snapshot:
-            snapshot.unlink(missing_ok=True)
+        self.published = step.name
+        for path in self.folder.iterdir():
+            if re.fullmatch(r"\d+-\d+", path.name) and ids_of(path.name) < ids_of(step.name):
+                shutil.rmtree(path, ignore_errors=True)
 
     def add(self, number, record):
         """Adds a record, unless it is there."""
