@@ -43,6 +43,7 @@ PASSED_OVER = (
     (r"(useradd|sudo|cp /opt/wdq/mirror/systemd/\S+) .*", "needs root"),
     (r"systemctl .*", "needs systemd"),
     (r"isql-vt .*", "needs Virtuoso"),
+    (r"scripts/package\.sh.*|mirror/tests/latency\.py .*", "takes minutes"),
 )
 # What a command has that isn't here, and what is tried in its place.
 STAND_INS = (

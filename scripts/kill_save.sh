@@ -1,8 +1,10 @@
 #!/usr/bin/env bash
 # Kills wdq at random moments while it saves, 200 times, and sees that the file of --save is whole each time: the old one or the new one.
-# Every second run goes on from the file that it saves to.
+# Every second run goes on from the file that it saves to. Then it kills as many runs that save behind each of a thousand watermarks, and
+# sees that each file is whole, and that a run from it over the lines behind it ends as one run does. Last it sees that the file is there
+# while wdq waits for its next line.
 # usage: scripts/kill_save.sh [TIMES]; WDQ names the program, without it this repository's.
-case ${1-} in -h | --help) sed -n '2,4s/^# \{0,1\}//p' "$0" && exit 0 ;; esac
+case ${1-} in -h | --help) sed -n '2,6s/^# \{0,1\}//p' "$0" && exit 0 ;; esac
 top=$(cd "$(dirname "$(readlink -f "${BASH_SOURCE[0]}")")/.." && pwd) || exit 2
 program=${WDQ:-$top/crates/wdq/out/wdq}
 # In other locales the seconds of EPOCHREALTIME have a comma.
@@ -65,4 +67,62 @@ for ((round = 0; round < times; round++)); do
   fi
 done
 echo "$times saves, $killed killed: $kept left the old file, $replaced the new one, $broken neither"
-[ "$broken" -eq 0 ]
+[ "$broken" -eq 0 ] || exit 1
+
+# An event and a watermark for each of 1,000 redirects, and what one run of them leaves.
+for ((n = 1; n <= 1000; n++)); do
+  time=$(date -u -d "@$((1714557600 + n))" +%Y-%m-%dT%H:%M:%SZ)
+  printf '{"kind":"edit","entity":"Q%d","rev":%d,"time":"%s"}\n{"watermark":"%s"}\n' "$n" "$n" "$time" "$time"
+done >log.jsonl
+save_often() { exec "$program" patches --from pages --save often --every 1 <log.jsonl >records; }
+begun=${EPOCHREALTIME/./}
+(save_often) || exit 1
+span=$((${EPOCHREALTIME/./} - begun))
+mv often whole
+mv records all_records
+
+# How many lines of the log the state of a file has taken, if the file is whole.
+lines_taken() {
+  [ "$(tail -n 1 "$1")" = "{\"end\":$(($(wc -l <"$1") - 1))}" ] || return 1
+  sed -n '1s/.*"lines":\([0-9]*\),.*/\1/p' "$1"
+}
+
+killed=0 none=0 broken=0
+for ((round = 0; round < times; round++)); do
+  rm -f often often.new
+  save_often &
+  child=$!
+  pause=$(((RANDOM * 32768 + RANDOM) % (span * 11 / 10)))
+  sleep "$((pause / 1000000)).$(printf '%06d' "$((pause % 1000000))")"
+  kill -9 "$child" 2>/dev/null
+  wait "$child" 2>/dev/null
+  [ $? -ne 137 ] || killed=$((killed + 1))
+  if [ ! -e often ]; then
+    none=$((none + 1))
+  elif ! taken=$(lines_taken often) || [ -z "$taken" ]; then
+    broken=$((broken + 1))
+  elif ! tail -n "+$((taken + 1))" log.jsonl | "$program" patches --from pages --resume often --save end >rest || ! cmp -s end whole; then
+    broken=$((broken + 1))
+  else
+    # What was printed before the state, and then the rest, is what one run prints.
+    tail -c "$(wc -c <rest)" all_records | cmp -s - rest || broken=$((broken + 1))
+  fi
+done
+echo "$times runs with saves on the way, $killed killed: $none before the first save, $broken broken"
+[ "$broken" -eq 0 ] || exit 1
+
+# A pipe that stays open: the snapshot is there while wdq waits for its next line.
+rm -f often
+mkfifo pipe
+"$program" patches --from pages --save often --every 1 <pipe >records &
+child=$!
+exec 3>pipe
+head -n 10 log.jsonl >&3
+for ((wait = 0; wait < 100; wait++)); do
+  [ -e often ] && taken=$(lines_taken often) && [ "$taken" = 10 ] && break
+  sleep 0.1
+done
+exec 3>&-
+wait "$child" || exit 1
+echo "an open pipe: $taken of 10 lines are in the snapshot"
+[ "$taken" = 10 ]

@@ -70,8 +70,8 @@ class Picture:
 
 
 def event():
-    """The way of an event through wdq, and what comes out."""
-    picture = Picture("The way of an event: from the event file through the reorder buffer to the store and the side output", 510)
+    """The path of an event through wdq, and what comes out."""
+    picture = Picture("The path of an event: from the event file through the reorder buffer to the store and the side output", 510)
     picture.box((20, 20, 290, 74), "box", ["event file", "edits, deletions, questions,", "repeated and out of order"])
     picture.box((350, 20, 270, 74), "box", ["pages", "one file for each revision"])
     picture.arrow((165, 94), (165, 150), "each line")

@@ -231,6 +231,9 @@ patches --resum a|'--resum' is no option of patches; did you mean --resume?
 replay --resume a --resume b|--resume is given twice
 follow --resume a|--resume is an option of replay, patches and split
 follow --save a|--save is an option of replay, patches and split
+replay --every 1|--every comes only together with --save
+patches --save a --every 0|--every takes a number from 1 to 4294967295, in digits without a leading zero, and not '0'
+follow --every 1|--every is an option of replay, patches and split
 replay --max-terms|--max-terms lacks its value, a number from 1 to 4294967295
 replay --max-terms 0|--max-terms takes a number from 1 to 4294967295, in digits without a leading zero, and not '0'
 replay --max-terms 4294967296|--max-terms takes a number from 1 to 4294967295
@@ -255,7 +258,19 @@ drill 10|'10' is no option of drill; did you mean --size 10?
 drill --size 0|--size takes a number from 1 to 200000
 drill --size 200001|--size takes a number from 1 to 200000
 END
-for words in '' -h --help --version help 'replay --help'; do
+for words in -h --help help; do
+  in_terminal "'$checkout/wdq' $words < /dev/null"
+  wants "status of '$words'" 0 "$status"
+  shows "usage of '$words'" 'keeps a store of Wikidata'
+done
+in_terminal "'$checkout/wdq' --help < /dev/null | cat"
+shows 'usage into a pipe' 'keeps a store of Wikidata'
+for words in -V --version version; do
+  in_terminal "'$checkout/wdq' $words < /dev/null"
+  wants "status of '$words'" 0 "$status"
+  shows "version of '$words'" "wdq $(sed -n 's/^version=//p' "$checkout/wdq")"
+done
+for words in '' 'replay --help'; do
   in_terminal "'$checkout/wdq' $words < /dev/null"
   wants "status of '$words'" 1 "$status"
   shows "usage of '$words'" $'wdq: words not understood\n\nwdq '
@@ -318,8 +333,8 @@ wants 'Ctrl-C ends the program' 130 "${shown##*status }"
 
 drop_program
 in_terminal "'$checkout/wdq' --help"
-wants 'help needs no build' '1 no log' "$status $(ls "$checkout/build.log" 2>/dev/null || echo no log)"
-shows 'help before the build' $'wdq: words not understood\n\nwdq '
+wants 'help needs no build' '0 no log' "$status $(ls "$checkout/build.log" 2>/dev/null || echo no log)"
+shows 'help before the build' 'keeps a store of Wikidata'
 "$checkout/wdq" replay <events.jsonl >out 2>err
 wants 'a build' '0 {"kind":"edit"}' "$? $(cat out)"
 wants 'what a build says in a file' $'wdq: building: 3 crates are proved\nwdq: 2 of 3 crates, 0 minutes' "$(sed 's/: 0 of/: 2 of/' err)"
