@@ -1,6 +1,2 @@
-pub mod Bounds
-pub mod Chains
-pub mod Readable
-pub mod Streamed
 pub mod Streams
 pub mod Texts

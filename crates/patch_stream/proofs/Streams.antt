@@ -3,8 +3,11 @@ use Rattle.std.proofs.Common.{◌≡◌, refl, sym, ◌∙◌, ap, ℕ, ◌+◌,
 use Rattle.std.proofs.{lemmas.List.Elements.filter-append, lemmas.Grind.flat_map-append}
 use Rattle.wq_io.specs.Streams.{after_known}
 use Rattle.text_output.proofs.Parts.{after_twice}
+use Rattle.delivery.specs.declared.Delivery.{Delivery}
+use Rattle.replay_model.specs.{Acceptance.arrivals, Play.Replies}
+use Rattle.replay_model.proofs.Arrivals.{arrivals-push}
 use Rattle.replica.specs.Record.{record_text}
-use Rattle.patch_stream.specs.Stream.{Step, changes, is_change, numbered_from, record_of_step, step_text, stream, stream_text, told_after}
+use Rattle.patch_stream.specs.Stream.{Step, changes, is_change, numbered_from, record_of_step, step_text, steps_at, steps_of_play, stream, stream_text, told_after}
 
 pub numbered-append : (n : ℕ) (xs ys : List Step) → numbered_from n (xs ++ ys) ≡ numbered_from n xs ++ numbered_from (n + length xs) ys
 numbered-append n [] ys =
@@ -46,3 +49,11 @@ pub told-push : (start old new : Option (List ℕ)) (told : ℕ) (steps : List S
     → new ≡ after_known start (stream_text (steps ++ s ∷ []))
 told-push start old new told steps s counted was is =
     is ∙ ap (λ b. after_known b (step_text told s)) was ∙ after_twice start (stream_text steps) (step_text told s) ∙ ap (after_known start) (sym (text-push told steps s counted))
+
+-- what a further delivery adds to the steps of a play
+pub steps-push : (hz : Option ℕ) (replies : Replies) (ds : List Delivery) (d : Delivery) →
+    steps_of_play hz replies (ds ++ d ∷ []) ≡ steps_of_play hz replies ds ++ steps_at hz replies (record { before = ds; delivery = d })
+steps-push hz replies ds d =
+    ap (flat_map (steps_at hz replies)) (arrivals-push ds d)
+    ∙ flat_map-append (steps_at hz replies) (arrivals ds) (record { before = ds; delivery = d } ∷ [])
+    ∙ ap (λ l. steps_of_play hz replies ds ++ l) (append-nil (steps_at hz replies (record { before = ds; delivery = d })))

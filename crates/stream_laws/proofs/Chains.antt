@@ -1,6 +1,5 @@
 -- Each step of a play begins where the one before it ended.
-use Rattle.std.proofs.Common.{◌≡◌, refl, sym, subst, ◌∙◌, ap, ℕ, Bool, true, false, cond, List, [], ◌∷◌, ◌++◌, filter, length, flat_map, fold, Option, append-nil, arith, true≢false}
-use Rattle.std.proofs.lemmas.List.Concat.{flat_map-append}
+use Rattle.std.proofs.Common.{◌≡◌, refl, sym, subst, ◌∙◌, ap, ℕ, Bool, true, false, cond, List, [], ◌∷◌, ◌++◌, filter, length, flat_map, fold, Option, None, Some, arith, true≢false}
 use Rattle.std.specs.FinMap as map
 use Rattle.std.specs.List.{AllByRecursion}
 use Rattle.sorted_sets.specs.Rising.{IsRising, has, sorted}
@@ -11,18 +10,24 @@ use Rattle.delivery.specs.declared.Delivery.TheVariants.{Event as Told, Watermar
 use Rattle.entity_model.specs.{declared.id.EntityId.EntityId, declared.event.Event.Event, declared.mapping.MappingVersion.MappingVersion}
 use Rattle.entity_model.specs.declared.mapping.MappingVersion.TheVariants.{One, Two}
 use Rattle.entity_model.specs.EntityId.{entity_cmp}
-use Rattle.replay_model.specs.Acceptance.{arrivals, version_in_force}
+use Rattle.entity_state.specs.declared.record.Held.{Held}
+use Rattle.rdf_vocabulary.proofs.Shared.{flat_map_all}
+use Rattle.munger.proofs.Fit.{sorted_each}
+use Rattle.meaning_texts.specs.Terms.{HasUtf8Terms}
+use Rattle.meaning_texts.proofs.Meanings.{meaning_utf8}
+use Rattle.replay_model.specs.Acceptance.{version_in_force}
 use Rattle.replay_model.specs.Play.{Played, Replies, apply, apply_all, newly_due, nothing_played, play, play_to_end}
-use Rattle.replay_model.specs.{Records.Records, Union.Meaning, Union.triples_at, Union.union}
+use Rattle.replay_model.specs.{Records.Bytes, Records.Records, Union.Meaning, Union.triples_at, Union.triples_held, Union.union}
 use Rattle.replay_model.specs.Versions.{all_by, is_holder, meaning_by, version_at, with_version}
-use Rattle.replay_model.proofs.{Arrivals.arrivals-push, Arrivals.play-push, InForce.version-kept, InForce.version-mapping}
+use Rattle.replay_model.proofs.{Arrivals.play-push, InForce.version-kept, InForce.version-mapping}
 use Rattle.replay_model.proofs.PlayedVersions.{by_two-remapped}
 use Rattle.replay_model.proofs.Versions.{has-holders, holders-rise, union-all, version-all}
 use Rattle.fetched_pages.specs.Meaning.{meaning}
 use Rattle.world.specs.WorldState.{differ, stale_by}
 use Rattle.world.proofs.Fit.{union_fit}
-use Rattle.patch_stream.specs.Laws.{BeginsAt, IsChain}
+use Rattle.stream_laws.specs.Laws.{BeginsAt, IsChain}
 use Rattle.patch_stream.specs.Stream.{Step, step, steps_anew, steps_applied, steps_at, steps_of_play, steps_remapped, steps_to_end}
+use Rattle.patch_stream.proofs.Streams.{steps-push}
 
 -- ---- chains
 
@@ -30,24 +35,45 @@ chain-append : (a b c : List Triple) (xs ys : List Step) → IsChain a xs b → 
 chain-append a b c [] ys first second = subst (λ t. IsChain t ys c) (sym first) second
 chain-append a b c (x ∷ xs) ys first second = (first.0, chain-append x.after b c xs ys first.1 second)
 
+-- what each entity's document means by the version that is chosen for it
+abbrev pub meant : (EntityId → MappingVersion) → Meaning Triple
+meant version x rev bytes = meaning (version x) x rev bytes
+
 -- the triples of all that is held are a set
 union_rises : (m : Meaning Triple) (records : Records) → IsRising triple_cmp (union triple_cmp m records)
 union_rises m records = IsRising-sorted triple_cmp-total (flat_map (triples_at m) (map.entries records))
 
--- their terms are fit and short
+-- their terms are UTF-8
+utf8_by : (m : Meaning Triple) → ((x : EntityId) (rev : ℕ) (bytes : Bytes) → AllByRecursion HasUtf8Terms (m x rev bytes)) → (records : Records) → AllByRecursion HasUtf8Terms (union triple_cmp m records)
+utf8_by m each records = sorted_each HasUtf8Terms triple_cmp (flat_map (triples_at m) (map.entries records)) (flat_map_all HasUtf8Terms (triples_at m) (map.entries records) (λ entry. of_held entry.0 entry.1.held))
+  where
+    of_held : (x : EntityId) (held : Option (Held Bytes)) → AllByRecursion HasUtf8Terms (triples_held m x held)
+    of_held x None = tt
+    of_held x (Some h) = each x h.revision h.content
+
+-- and fit and short
 fit_by : (version : MappingVersion) (records : Records) → AllByRecursion HasFitAndShortTerms (union triple_cmp (meaning version) records)
 fit_by version records = subst (AllByRecursion HasFitAndShortTerms) (union-all meaning version records triple_cmp) (union_fit (all_by version records) records)
 
-between : (m n : Meaning Triple) (records others : Records) → AllByRecursion HasFitAndShortTerms (union triple_cmp m records) → AllByRecursion HasFitAndShortTerms (union triple_cmp n others) →
-    BeginsAt (union triple_cmp m records) (step (union triple_cmp m records) (union triple_cmp n others))
-between m n records others fit fit_after = record { begins = refl; rises = union_rises m records; rises_after = union_rises n others; fit = fit; fit_after = fit_after }
+-- a step from what some entities' documents mean by two choices of versions
+between : (old new : EntityId → MappingVersion) (records others : Records) → AllByRecursion HasFitAndShortTerms (union triple_cmp (meant old) records) → AllByRecursion HasFitAndShortTerms (union triple_cmp (meant new) others) →
+    BeginsAt (union triple_cmp (meant old) records) (step (union triple_cmp (meant old) records) (union triple_cmp (meant new) others))
+between old new records others fit fit_after = record {
+  begins = refl;
+  rises = union_rises (meant old) records;
+  rises_after = union_rises (meant new) others;
+  fit = fit;
+  fit_after = fit_after;
+  utf8 = utf8_by (meant old) (λ x. meaning_utf8 (old x) x) records;
+  utf8_after = utf8_by (meant new) (λ x. meaning_utf8 (new x) x) others;
+}
 
 -- ---- applications
 
 chain_applied : (version : MappingVersion) (replies : Replies) (p : Played) (es : List Event) →
     IsChain (union triple_cmp (meaning version) p.records) (steps_applied version replies p es) (union triple_cmp (meaning version) (apply_all replies p es).records)
 chain_applied version replies p [] = refl
-chain_applied version replies p (e ∷ es) = (between (meaning version) (meaning version) p.records (apply replies p e).records (fit_by version p.records) (fit_by version (apply replies p e).records), chain_applied version replies (apply replies p e) es)
+chain_applied version replies p (e ∷ es) = (between (λ x. version) (λ x. version) p.records (apply replies p e).records (fit_by version p.records) (fit_by version (apply replies p e).records), chain_applied version replies (apply replies p e) es)
 
 -- ---- remappings
 
@@ -59,7 +85,7 @@ chain_remapped : (version : MappingVersion) (records : Records) (by_two xs : Lis
     IsChain (union triple_cmp (meaning_by meaning by_two) records) (steps_remapped version records by_two xs) (union triple_cmp (meaning_by meaning (by_two_then version by_two xs)) records)
 chain_remapped version records by_two [] = refl
 chain_remapped version records by_two (x ∷ xs) =
-    (between (meaning_by meaning by_two) (meaning_by meaning (with_version version x by_two)) records records (union_fit by_two records) (union_fit (with_version version x by_two) records), chain_remapped version records (with_version version x by_two) xs)
+    (between (version_at by_two) (version_at (with_version version x by_two)) records records (union_fit by_two records) (union_fit (with_version version x by_two) records), chain_remapped version records (with_version version x by_two) xs)
 
 -- of those that pass one test all pass another, or none does
 all_pass : {A : Type 0} (p q : A → Bool) (xs : List A) → ((x : A) → q x ≡ true → p x ≡ true) → filter p (filter q xs) ≡ filter q xs
@@ -147,19 +173,13 @@ module _ (hz : Option ℕ) (replies : Replies) where
       (λ i. union triple_cmp (meaning (sym (version-mapping ds v) i)) (sym (play-push hz replies ds (Mapping v)) i).records)
       (chain_anew v (version_in_force ds) (play hz replies ds).records)
 
-  pub steps-push : (ds : List Delivery) (d : Delivery) → steps_of_play hz replies (ds ++ d ∷ []) ≡ steps_of_play hz replies ds ++ steps_at hz replies (record { before = ds; delivery = d })
-  steps-push ds d =
-      ap (flat_map (steps_at hz replies)) (arrivals-push ds d)
-      ∙ flat_map-append (steps_at hz replies) (arrivals ds) (record { before = ds; delivery = d } ∷ [])
-      ∙ ap (λ l. steps_of_play hz replies ds ++ l) (append-nil (steps_at hz replies (record { before = ds; delivery = d })))
-
   -- before the first delivery nothing is stored
   nothing_stored : [] ≡ stored []
   nothing_stored = ap (λ es. sorted triple_cmp (flat_map (triples_at (meaning (version_in_force []))) es)) (sym (no_entries (map.entries nothing_played.records) (sym (map.len-entries nothing_played.records) ∙ map.len-empty _ _)))
 
   pub chain_of_play : (ds : List Delivery) → IsChain [] (steps_of_play hz replies ds) (stored ds)
   chain_of_play = by_pushes (λ ds. IsChain [] (steps_of_play hz replies ds) (stored ds)) nothing_stored
-      (λ ds d before. subst (λ steps. IsChain [] steps (stored (ds ++ d ∷ []))) (sym (steps-push ds d))
+      (λ ds d before. subst (λ steps. IsChain [] steps (stored (ds ++ d ∷ []))) (sym (steps-push hz replies ds d))
       (chain-append [] (stored ds) (stored (ds ++ d ∷ [])) (steps_of_play hz replies ds) (steps_at hz replies (record { before = ds; delivery = d })) before (chain_at ds d)))
 
   -- with the end of the input

@@ -20,7 +20,8 @@ use Rattle.replay_model.proofs.PlayedRecords.{records-played, records_of}
 use Rattle.world.specs.WorldState.{differ, stale_by}
 use Rattle.replica.specs.declared.record.PatchRecord.{PatchRecord}
 use Rattle.patch_stream.specs.Stream.{Step, is_change, steps_anew, steps_applied, steps_of_play, steps_remapped, steps_to_end, stream}
-use Rattle.patch_stream.proofs.{Chains.steps-push, Streamed.are_few}
+use Rattle.patch_stream.proofs.Streams.{steps-push}
+use Rattle.stream_laws.proofs.Streamed.{are_few}
 
 -- ---- lists
 
@@ -46,7 +47,7 @@ arrivals_many before (d ∷ ds) = ap suc (arrivals_many (before ++ d ∷ []) ds)
 
 -- ---- events that are due
 
-due_few : (hz : Option ℕ) (closed : Bool) (ds : List Delivery) → length (in_order (due hz closed ds)) ≤ length ds
+pub due_few : (hz : Option ℕ) (closed : Bool) (ds : List Delivery) → length (in_order (due hz closed ds)) ≤ length ds
 due_few hz closed ds =
     let few : length (due hz closed ds) ≤ length (accepted hz ds) = filter_few _ (accepted hz ds) in
     omega (
@@ -59,20 +60,19 @@ due_few hz closed ds =
 
 -- ---- records
 
+-- an application adds one record at most
+pub one_more : (replies : Replies) (records : Records) (e : Event) → finite.len (records_after replies records e) ≤ finite.len records + 1
+one_more replies records e = by (finite.contains_key records e.entity) (finite.len-insert entity_cmp_total records e.entity _)
+  where
+    by : (b : Bool) → finite.len (records_after replies records e) ≡ cond b (finite.len records) (finite.len records + 1) → finite.len (records_after replies records e) ≤ finite.len records + 1
+    by true is = omega (arith, is)
+    by false is = omega (arith, is)
+
 fold_few : (replies : Replies) (records : Records) (es : List Event) → finite.len (fold (records_after replies) records es) ≤ finite.len records + length es
 fold_few replies records [] = omega arith
-fold_few replies records (e ∷ es) =
-    let one = finite.len-insert entity_cmp_total records e.entity _ in
-    let more = fold_few replies (records_after replies records e) es in
-    by (finite.contains_key records e.entity) one more
-  where
-    by : (b : Bool) → finite.len (records_after replies records e) ≡ cond b (finite.len records) (finite.len records + 1) →
-        finite.len (fold (records_after replies) (records_after replies records e) es) ≤ finite.len (records_after replies records e) + length es →
-        finite.len (fold (records_after replies) (records_after replies records e) es) ≤ finite.len records + length (e ∷ es)
-    by true one more = omega (arith, one, more)
-    by false one more = omega (arith, one, more)
+fold_few replies records (e ∷ es) = omega (arith, one_more replies records e, fold_few replies (records_after replies records e) es)
 
-records_few : (hz : Option ℕ) (replies : Replies) (ds : List Delivery) → finite.len (play hz replies ds).records ≤ length (in_order (due hz false ds))
+pub records_few : (hz : Option ℕ) (replies : Replies) (ds : List Delivery) → finite.len (play hz replies ds).records ≤ length (in_order (due hz false ds))
 records_few hz replies ds =
     let few = fold_few replies nothing_played.records (in_order (due hz false ds)) in
     let none : finite.len nothing_played.records ≡ 0 = finite.len-empty _ _ in

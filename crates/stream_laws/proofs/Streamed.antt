@@ -7,7 +7,7 @@ use Rattle.rdf_term.specs.{declared.triple.Triple.Triple, Order.triple_cmp}
 use Rattle.replica.specs.{declared.record.PatchRecord.PatchRecord, Laws.IsGreatest, Laws.IsProducer, Laws.IsRecordOf}
 use Rattle.replica.specs.Replica.{Follows, ReplicaState, after, numbered}
 use Rattle.replica.proofs.Producers.{after_is, follows_its_producer}
-use Rattle.patch_stream.specs.Laws.{AreOfStream, IsChain}
+use Rattle.stream_laws.specs.Laws.{AreOfStream, IsChain}
 use Rattle.patch_stream.specs.Stream.{Step, changes, is_change, numbered_from, record_of_step, stream}
 use Rattle.patch_stream.proofs.Texts.{differs}
 

@@ -5,11 +5,17 @@ use Rattle.std.specs.List.{AllByRecursion}
 use Rattle.sorted_sets.specs.Rising.{Each, In, difference, has}
 use Rattle.sorted_sets.proofs.Filtering.{IsRising-filter, has-difference}
 use Rattle.rdf_term.specs.{declared.triple.Triple.Triple, Fit.HasFitAndShortTerms, Order.triple_cmp, Order.triple_cmp-total}
+use Rattle.meaning_texts.specs.Terms.{HasUtf8Terms}
 use Rattle.replica.specs.{declared.record.PatchRecord.PatchRecord, Laws.HasShortNumbers, Replica.numbered, TripleLine.HasReadableTerms}
 use Rattle.replica.proofs.LineFeeds.{splits_into_lines}
-use Rattle.patch_stream.specs.Laws.{AreOfStream, BeginsAt, CanBeRead, HasUtf8Terms, HasWritableSides, IsChain}
+use Rattle.stream_laws.specs.Laws.{AreOfStream, BeginsAt, CanBeRead, IsChain}
 use Rattle.patch_stream.specs.Stream.{Step, is_change, numbered_from, record_of_step, stream}
-use Rattle.patch_stream.proofs.{Bounds.filter_few, Streamed.chain_of_changes}
+use Rattle.stream_laws.proofs.{Bounds.filter_few, Streamed.chain_of_changes}
+
+-- the numbers of the triples that are stored before and after a step fit 64 bits
+pub record HasFewTriples (s : Step) : Type 0 where
+  pub before : length s.before < 2 ^ 64
+  pub after : length s.after < 2 ^ 64
 
 -- ---- triples
 
@@ -43,25 +49,25 @@ apart false false there = refl
 
 -- ---- the record of a step
 
-step_sound : (stored : List Triple) (number : ℕ) (s : Step) → 0 < number → number < 2 ^ 64 → BeginsAt stored s → HasWritableSides s → HasShortNumbers (record_of_step number s)
+step_sound : (stored : List Triple) (number : ℕ) (s : Step) → 0 < number → number < 2 ^ 64 → BeginsAt stored s → HasFewTriples s → HasShortNumbers (record_of_step number s)
 step_sound stored number s low high begins sides = record {
   sound = record {
     numbered = low;
     adds = IsRising-filter triple_cmp (λ t. not (has triple_cmp t s.before)) s.after begins.rises_after;
     removes = IsRising-filter triple_cmp (λ t. not (has triple_cmp t s.after)) s.before begins.rises;
     readable = append_all HasReadableTerms (difference triple_cmp s.after s.before) (difference triple_cmp s.before s.after)
-        (filter_all HasReadableTerms (λ t. not (has triple_cmp t s.before)) s.after (readable s.after begins.fit_after sides.after.utf8))
-        (filter_all HasReadableTerms (λ t. not (has triple_cmp t s.after)) s.before (readable s.before begins.fit sides.before.utf8));
+        (filter_all HasReadableTerms (λ t. not (has triple_cmp t s.before)) s.after (readable s.after begins.fit_after begins.utf8_after))
+        (filter_all HasReadableTerms (λ t. not (has triple_cmp t s.after)) s.before (readable s.before begins.fit begins.utf8));
     apart = λ t there. has-difference triple_cmp-total t s.before s.after ∙ apart (has triple_cmp t s.before) (has triple_cmp t s.after) (sym (has-difference triple_cmp-total t s.after s.before) ∙ there);
   };
   number = high;
-  adds = let few = filter_few (λ t. not (has triple_cmp t s.before)) s.after in omega (arith, few, sides.after.few);
-  removes = let few = filter_few (λ t. not (has triple_cmp t s.after)) s.before in omega (arith, few, sides.before.few);
+  adds = let few = filter_few (λ t. not (has triple_cmp t s.before)) s.after in omega (arith, few, sides.after);
+  removes = let few = filter_few (λ t. not (has triple_cmp t s.after)) s.before in omega (arith, few, sides.before);
 }
 
 -- ---- a stream
 
-records_sound : (told : ℕ) (first last : List Triple) (steps : List Step) → told + length steps < 2 ^ 64 → IsChain first steps last → Each HasWritableSides steps → AllByRecursion HasShortNumbers (numbered_from (told + 1) steps)
+records_sound : (told : ℕ) (first last : List Triple) (steps : List Step) → told + length steps < 2 ^ 64 → IsChain first steps last → Each HasFewTriples steps → AllByRecursion HasShortNumbers (numbered_from (told + 1) steps)
 records_sound told first last [] few chain sides = tt
 records_sound told first last (s ∷ steps) few chain sides = (
   step_sound first (told + 1) s (omega arith) (omega (arith, few)) chain.0 sides.0,
@@ -76,11 +82,11 @@ filter_each P p (s ∷ steps) all = by (p s) (filter_each P p steps all.1)
     by true rest = (all.0, rest)
     by false rest = rest
 
-module _ (last : List Triple) (steps : List Step) (chain : IsChain [] steps last) (sides : Each HasWritableSides steps) (few : length steps < 2 ^ 64) where
+module _ (last : List Triple) (steps : List Step) (chain : IsChain [] steps last) (sides : Each HasFewTriples steps) (few : length steps < 2 ^ 64) where
   stream_sound : AllByRecursion HasShortNumbers (stream steps)
   stream_sound =
       let fewer = filter_few is_change steps in
-      records_sound 0 [] last (filter is_change steps) (omega (arith, few, fewer)) (chain_of_changes [] last steps chain) (filter_each HasWritableSides is_change steps sides)
+      records_sound 0 [] last (filter is_change steps) (omega (arith, few, fewer)) (chain_of_changes [] last steps chain) (filter_each HasFewTriples is_change steps sides)
 
   pub can_be_read : CanBeRead steps
   can_be_read = record { sound = stream_sound; are_lines = splits_into_lines (stream steps) stream_sound }

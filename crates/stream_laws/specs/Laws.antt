@@ -1,19 +1,22 @@
 -- That each step of a replay begins where the last one ended, and records that are those of its stream.
-use Rattle.std.specs.Prelude.{◌≡◌, ℕ, ◌<◌, ◌≤◌, ◌^◌, List, [], ◌∷◌, length, flat_map, IsSome}
-use Rattle.std.specs.{List.AllByRecursion, Str.IsUtf8}
+use Rattle.std.specs.Prelude.{◌≡◌, ℕ, ◌<◌, ◌≤◌, List, [], ◌∷◌, flat_map, IsSome}
+use Rattle.std.specs.List.{AllByRecursion}
 use Rattle.sorted_sets.specs.Rising.{Each, In, IsRising}
 use Rattle.wq_io.specs.Lines.{lines}
-use Rattle.rdf_term.specs.{declared.triple.Triple.Triple, Fit.HasFitAndShortTerms, Order.triple_cmp, Text.term_text}
+use Rattle.rdf_term.specs.{declared.triple.Triple.Triple, Fit.HasFitAndShortTerms, Order.triple_cmp}
+use Rattle.meaning_texts.specs.Terms.{HasUtf8Terms}
 use Rattle.replica.specs.{declared.record.PatchRecord.PatchRecord, Laws.HasShortNumbers, Record.record_lines, Replica.numbered}
 use Rattle.patch_stream.specs.Stream.{Step, changes, stream, stream_text}
 
--- the step begins at these triples; what is stored before it and after it are sets of triples of fit and short terms
+-- the step begins at these triples; what is stored before it and after it are sets of triples of fit and short terms in UTF-8
 pub record BeginsAt (stored : List Triple) (s : Step) : Type 0 where
   pub begins : s.before ≡ stored
   pub rises : IsRising triple_cmp s.before
   pub rises_after : IsRising triple_cmp s.after
   pub fit : AllByRecursion HasFitAndShortTerms s.before
   pub fit_after : AllByRecursion HasFitAndShortTerms s.after
+  pub utf8 : AllByRecursion HasUtf8Terms s.before
+  pub utf8_after : AllByRecursion HasUtf8Terms s.after
 
 -- each step begins where the one before it ended, the first at the first triples, and the last ends at the last ones
 abbrev pub IsChain : List Triple → List Step → List Triple → Type 0
@@ -24,22 +27,6 @@ IsChain first (s ∷ steps) last = BeginsAt first s × IsChain s.after steps las
 pub record AreOfStream (steps : List Step) (items : List PatchRecord) : Type 0 where
   pub each : Each (λ item. In item (stream steps)) items
   pub every : (number : ℕ) → 0 < number → number ≤ changes steps → IsSome (numbered number items)
-
--- the texts of the triple's terms are UTF-8
-pub record HasUtf8Terms (triple : Triple) : Type 0 where
-  pub subject : IsUtf8 (term_text triple.subject)
-  pub predicate : IsUtf8 (term_text triple.predicate)
-  pub object : IsUtf8 (term_text triple.object)
-
--- the terms of these triples have texts that are UTF-8, and their number fits 64 bits: what is in memory is so
-pub record AreWritable (triples : List Triple) : Type 0 where
-  pub utf8 : AllByRecursion HasUtf8Terms triples
-  pub few : length triples < 2 ^ 64
-
--- so is what is stored before and after a step
-pub record HasWritableSides (s : Step) : Type 0 where
-  pub before : AreWritable s.before
-  pub after : AreWritable s.after
 
 -- the texts of the stream's records can be read: they are those of records that a reader gives, and have the lines of these, and no other
 pub record CanBeRead (steps : List Step) : Type 0 where

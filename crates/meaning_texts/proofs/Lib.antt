@@ -1,0 +1,14 @@
+pub mod Ascii
+pub mod Documents
+pub mod Lexemes
+pub mod Few
+pub mod Lengths
+pub mod Links
+pub mod Meanings
+pub mod Members
+pub mod Pages
+pub mod Read
+pub mod Sizes
+pub mod Statements
+pub mod Values
+pub mod Vocabulary

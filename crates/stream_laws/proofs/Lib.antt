@@ -1,0 +1,5 @@
+pub mod Bounds
+pub mod Chains
+pub mod Readable
+pub mod Sides
+pub mod Streamed
