@@ -1,5 +1,5 @@
 -- The buffer as a value, and what each call makes of it.
-use Rattle.std.specs.Prelude.{Bool, true, false, cond, not, ℕ, ℤ, Option, None, List, [], find, filter}
+use Rattle.std.specs.Prelude.{◌≡◌, Bool, true, false, cond, not, ℕ, ℤ, Option, None, List, [], find, filter}
 use Rattle.std.specs.BTreeSet.{insert_key}
 use Rattle.std.specs.Set.{remove_key}
 use Rattle.sorted_sets.specs.Rising.{has}
@@ -55,6 +55,11 @@ after_answer Late b e = record b { kept = keeping b e }
 -- after taking an event
 abbrev pub after_taking : Buffered → Event → Buffered
 after_taking b e = after_answer (answer_to b e) b e
+
+-- the event is one more of those that are kept: no equal one is kept, and it isn't below the floor
+pub record IsAdded (b : Buffered) (e : Event) : Type 0 where
+  pub other : has event_cmp e b.kept ≡ false
+  pub above : is_below (floor_of b) e.time ≡ false
 
 -- without the events below the floor
 abbrev pub after_forgetting : Buffered → Buffered

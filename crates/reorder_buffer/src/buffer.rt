@@ -3,8 +3,9 @@
 ghost use Rattle.std.specs.Prelude.{◌≡◌, false, Some, length, OnOk, OnErr, IfOk, IsSome, IfSome, All};
 ghost use Rattle.std.specs.{List.list_any, Option.option_copied, BTreeMap.Range.IsLeBy};
 ghost use Rattle.entity_model.specs.Event.{event_cmp};
-ghost use Rattle.reorder_buffer.specs.Watermarks.{floor, is_below, is_due};
-ghost use Rattle.reorder_buffer.specs.Buffered.{nothing_taken, nothing_taken_within, answer_to, after_taking, after_raising, after_closing, first_due, after_dropping, unforgotten};
+ghost use Rattle.reorder_buffer.specs.Watermarks.{floor, is_below, is_due, reached};
+ghost use Rattle.sorted_sets.specs.Rising.{has};
+ghost use Rattle.reorder_buffer.specs.Buffered.{nothing_taken, nothing_taken_within, answer_to, after_taking, after_raising, after_closing, first_due, after_dropping, unforgotten, IsAdded};
 
 use crate::taken::Taken;
 use crate::watermarks;
@@ -57,12 +58,14 @@ impl Buffer {
     }
 
     /// Takes an event: one that is remembered changes nothing, one whose time the watermark has reached is remembered
-    /// unless it is below the floor, and any other is remembered and waits. After `OutOfMemory` nothing has changed.
+    /// unless it is below the floor, and any other is remembered and waits. Only an event that is remembered from now on takes memory. After
+    /// `OutOfMemory` nothing has changed.
     pub fn take(&mut self, event: Event) -> Result<Taken, OutOfMemory>
         requires { self.old.closed ≡ false }
         ensures answer { IfOk result (λ taken. taken ≡ answer_to self.old event) }
         ensures ok { OnOk result (self.new ≡ after_taking self.old event) }
         ensures err { OnErr result (self.new ≡ self.old) }
+        ensures refused { OnErr result (IsAdded self.old event) }
         ensures not_closed { self.new.closed ≡ false }
     {
         if watermarks::is_below(self.horizon, self.mark, event.time) {
@@ -147,6 +150,20 @@ impl Buffer {
         Ok(List::from_vec(events))
     }
 
+    /// Whether an equal event is remembered.
+    pub fn remembers(&self, event: &Event) -> bool
+        ensures { result ≡ has event_cmp event.now self.now.kept }
+    {
+        self.kept.contains(event)
+    }
+
+    /// Whether the mark has reached a time, in microseconds since 1970-01-01T00:00:00Z.
+    pub fn has_reached(&self, time: i64) -> bool
+        ensures { result ≡ reached self.now.mark time }
+    {
+        watermarks::reached(self.mark, time)
+    }
+
     /// The greatest watermark so far, in microseconds since 1970-01-01T00:00:00Z.
     pub fn mark(&self) -> Option<i64>
         ensures { result ≡ self.now.mark }
@@ -165,7 +182,7 @@ impl Buffer {
     fn is_due(&self, event: &Event) -> bool
         ensures { result ≡ is_due self.now.closed self.now.mark event.now }
     {
-        self.closed || watermarks::reached(self.mark, event.time)
+        self.closed || self.has_reached(event.time)
     }
 }
 

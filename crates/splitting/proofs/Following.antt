@@ -18,7 +18,7 @@ use Rattle.replay_model.specs.{Records.Bytes, Records.Records, Records.record_of
 use Rattle.replay_model.specs.Versions.{meaning_by, version_at, with_version}
 use Rattle.graph_routes.specs.{declared.routes.Route.Route, Routing.classes_said, Routing.leads}
 use Rattle.subgraph.specs.{Entries.Entries, Entries.Entry, Laws.IsSplitOf, Laws.entry_held, Split.entry, Split.graph_of}
-use Rattle.world.specs.{declared.applied.Applied.Applied, declared.applied.Outcome.Outcome}
+use Rattle.world.specs.{declared.applied.AppliedEvent.AppliedEvent, declared.applied.Outcome.Outcome}
 use Rattle.world.specs.declared.applied.Outcome.TheVariants.{Same, Stored, Dropped, Sided}
 use Rattle.world.specs.{declared.applied.RoutedPage.RoutedPage, Applying.Applies, Applying.outcome_of_reply}
 use Rattle.world.specs.Routed.{AreTriplesOf, GivesPage}
@@ -90,7 +90,7 @@ IsHeldAfter (Sided cause) held now = now ≡ held
 IsHeldAfter Dropped held now = now ≡ None
 IsHeldAfter Stored held now = Unit {0}
 
-module _ (known : Option Contents) (folder : List ℕ) (before after : WorldState) (applied : Applied) (a : Applies known folder before.replay after.replay applied) where
+module _ (known : Option Contents) (folder : List ℕ) (before after : WorldState) (applied : AppliedEvent) (a : Applies known folder before.replay after.replay applied) where
   abbrev x : EntityId
   x = applied.event.entity
 
@@ -179,7 +179,7 @@ module _ (routes : List Route) (entries entries_now : Entries) (before after : W
           follows
 
 -- graphs that follow a world follow it after an application
-pub application_followed : (routes : List Route) (entries entries_now : Entries) (known : Option Contents) (folder : List ℕ) (before after : WorldState) (applied : Applied) (page : Option RoutedPage)
+pub application_followed : (routes : List Route) (entries entries_now : Entries) (known : Option Contents) (folder : List ℕ) (before after : WorldState) (applied : AppliedEvent) (page : Option RoutedPage)
     → Applies known folder before.replay after.replay applied → AreHolders before.by_two before.replay.played.records → after.by_two ≡ by_two_after applied.outcome before.mapping applied.event.entity before.by_two
     → GivesPage routes before.mapping applied.event.entity applied.outcome (held_in after applied.event.entity) page → AreEntriesAfter applied.outcome applied.event.entity page entries entries_now
     → IsSplitOf (routing_by routes) (meaning_by meaning before.by_two) entries before.replay.played.records → IsSplitOf (routing_by routes) (meaning_by meaning after.by_two) entries_now after.replay.played.records
@@ -224,7 +224,7 @@ module _ (routes : List Route) (entries entries_now : Entries) (before : WorldSt
 -- ---- graphs
 
 -- graphs that follow a world follow it after an application
-pub graphs_applied : (routes : List Route) (limit : ℕ) (entries entries_now : Entries) (applied : Applied) (page : Option RoutedPage) → AreEntriesAfter applied.outcome applied.event.entity page entries entries_now
+pub graphs_applied : (routes : List Route) (limit : ℕ) (entries entries_now : Entries) (applied : AppliedEvent) (page : Option RoutedPage) → AreEntriesAfter applied.outcome applied.event.entity page entries entries_now
     → (known : Option Contents) (folder : List ℕ) (before after : WorldState) → Applies known folder before.replay after.replay applied → after.limit ≡ before.limit
     → after.by_two ≡ by_two_after applied.outcome before.mapping applied.event.entity before.by_two → AreHolders after.by_two after.replay.played.records
     → GivesPage routes before.mapping applied.event.entity applied.outcome (held_in after applied.event.entity) page

@@ -20,7 +20,7 @@ use std::hash::RandomState;
 use std::marker::Model;
 use subgraph::{Split, StoreFault};
 use triple_texts::TripleTexts;
-use world::{Applied, Outcome, RoutedPage};
+use world::{AppliedEvent, Outcome, RoutedPage};
 
 /// Several graphs, by routes: one graph for each route, and a last one. An entity has its triples in one of them, or in none. If memory is
 /// refused while they follow a step, they are lost: they hold nothing and follow nothing from then on. A graph never lacks room if the world that it follows
@@ -80,7 +80,7 @@ impl Graphs {
     /// Memory was refused, now or at an earlier step: the graphs are lost.
     pub fn follow_application(
         &mut self,
-        applied: &Applied,
+        applied: &AppliedEvent,
         routed: Option<RoutedPage>,
     ) -> Result<(), OutOfMemory>
         requires sound { IsSound self.old.routes applied.now.outcome routed }
@@ -143,7 +143,7 @@ impl Graphs {
 // Follows the application of an event.
 fn apply(
     split: &mut Split,
-    applied: &Applied,
+    applied: &AppliedEvent,
     routed: Option<RoutedPage>,
 ) -> Result<(), OutOfMemory>
     requires sound { IsSoundFor split.old.graphs applied.now.outcome routed }

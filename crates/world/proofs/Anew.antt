@@ -12,20 +12,20 @@ use Rattle.slot_keys.specs.{declared.key.Key.Key, declared.keys.Keys.Keys}
 use Rattle.triple_store.specs.Counts.{Exchanges}
 use Rattle.triple_store.specs.StoreState.{AreKeysOf, IsSound, KeepsKeys, StoreState, beside, counts_in}
 use Rattle.replay_model.specs.{Records.Bytes, Records.Records, Records.record_of, Union.Meaning, Union.triples_held}
-use Rattle.world.specs.{declared.kept.Kept.Kept, InStep.IsKept, InStep.triples_kept}
+use Rattle.world.specs.{declared.kept.KeptPage.KeptPage, InStep.IsKept, InStep.triples_kept}
 use Rattle.world.specs.Keeping.{KeptRecords, PieceTexts, held_keys, held_with, kept_of, keys_held, piece_at, piece_held, record_with, seen, with_keys}
 use Rattle.world.proofs.Moving.{exchanged_same, record_here, record_elsewhere, kept_put, keys_same, seen_of, seen_put}
 use Rattle.world.proofs.Pieced.{held_again, id_tells}
 
-piece_same : (h : Option (Held Kept)) (keys : Keys) → piece_held (held_keys h keys) ≡ piece_held h
+piece_same : (h : Option (Held KeptPage)) (keys : Keys) → piece_held (held_keys h keys) ≡ piece_held h
 piece_same None keys = refl
 piece_same (Some h) keys = refl
 
-keys_are : (h : Option (Held Kept)) (keys : Keys) → is_some h ≡ true → keys_held (held_keys h keys) ≡ keys.rising.items
+keys_are : (h : Option (Held KeptPage)) (keys : Keys) → is_some h ≡ true → keys_held (held_keys h keys) ≡ keys.rising.items
 keys_are None keys is = absurd (true≢false (sym is))
 keys_are (Some h) keys is = refl
 
-text_same : (f k : PieceTexts) (h : Option (Held Kept)) (keys : Keys) → ((p : Piece) → k p ≡ f p) → held_with k (held_keys h keys) ≡ held_with f h
+text_same : (f k : PieceTexts) (h : Option (Held KeptPage)) (keys : Keys) → ((p : Piece) → k p ≡ f p) → held_with k (held_keys h keys) ≡ held_with f h
 text_same f k None keys texts = refl
 text_same f k (Some h) keys texts = ap (λ (o : Option Bytes). Some (record { revision = h.revision; content = unwrap_or o [] })) (texts h.content.piece)
 
@@ -42,7 +42,7 @@ put_same records x there = by (map.get records x) refl
         (id_tells y x))
 
 -- a record that is there gets other keys
-pub keys_set : (kept : KeptRecords) (x : EntityId) (b : Record Kept) (h : Held Kept) (keys : Keys) (gone n : Record Kept) (one two : KeptRecords)
+pub keys_set : (kept : KeptRecords) (x : EntityId) (b : Record KeptPage) (h : Held KeptPage) (keys : Keys) (gone n : Record KeptPage) (one two : KeptRecords)
     → map.get kept x ≡ Some b → b.held ≡ Some h
     → one ≡ map.insert kept x gone → two ≡ map.insert one x n
     → n ≡ record { state = b.state; held = Some (record { revision = h.revision; content = record { piece = h.content.piece; keys = keys; times = None } }); reconciled = b.reconciled }
@@ -50,8 +50,8 @@ pub keys_set : (kept : KeptRecords) (x : EntityId) (b : Record Kept) (h : Held K
 keys_set kept x b h keys gone n one two was held put_one put_two is =
     let there : kept_of kept x ≡ b = ap (λ o. unwrap_or o blank) was in
     let with_held : with_keys (kept_of kept x) keys ≡ n =
-    ap (λ (r : Record Kept). with_keys r keys) there
-    ∙ ap (λ (o : Option (Held Kept)). record { state = b.state; held = held_keys o keys; reconciled = b.reconciled }) held
+    ap (λ (r : Record KeptPage). with_keys r keys) there
+    ∙ ap (λ (o : Option (Held KeptPage)). record { state = b.state; held = held_keys o keys; reconciled = b.reconciled }) held
     ∙ sym is in
     put_two ∙ ap (λ (records : KeptRecords). map.insert records x n) put_one ∙ put_twice ∙ ap (map.insert kept x) (sym with_held)
   where
@@ -61,36 +61,36 @@ keys_set kept x b h keys gone n one two was held put_one put_two is =
         ∙ ap (cond (eq_by_cmp entity_cmp y x) (Some n)) (map.get-insert entity_cmp_total kept x gone y)
         ∙ by (eq_by_cmp entity_cmp y x) (map.get kept y) ∙ sym (map.get-insert entity_cmp_total kept x n y))
       where
-        by : (b : Bool) (o : Option (Record Kept)) → cond b (Some n) (cond b (Some gone) o) ≡ cond b (Some n) o
+        by : (b : Bool) (o : Option (Record KeptPage)) → cond b (Some n) (cond b (Some gone) o) ≡ cond b (Some n) o
         by true o = refl
         by false o = refl
 
 -- an id that was put in has room
-pub room_after : (t t2 : Tabled Kept) (id : EntityId) (r : Record Kept) → t2 ≡ after_putting t id r → has_room t2 id ≡ true
+pub room_after : (t t2 : Tabled KeptPage) (id : EntityId) (r : Record KeptPage) → t2 ≡ after_putting t id r → has_room t2 id ≡ true
 room_after t t2 id r is =
-    ap (λ (u : Tabled Kept). has_room u id) is
-    ∙ ap (λ (o : Option (Record Kept)). is_some o || list_any (eq_by_cmp entity_cmp id) (after_putting t id r).room)
+    ap (λ (u : Tabled KeptPage). has_room u id) is
+    ∙ ap (λ (o : Option (Record KeptPage)). is_some o || list_any (eq_by_cmp entity_cmp id) (after_putting t id r).room)
     (map.get-insert entity_cmp_total t.records id r id ∙ ap (λ b. cond b (Some r) (map.get t.records id)) ((eq_by_cmp_equiv entity_cmp_total).refl id))
 
 module _ (m m2 : Meaning Triple) (x : EntityId) (agree : (y : EntityId) → y ≢ x → (rev : ℕ) (bytes : Bytes) → m2 y rev bytes ≡ m y rev bytes)
     (s s2 : StoreState) (kept : KeptRecords) (keys : Keys) (h : IsKept m s kept)
     (there : is_some (kept_of kept x).held ≡ true)
     (texts : (p : Piece) → beside s2 p ≡ beside s p) where
-  abbrev anew : Record Kept
+  abbrev anew : Record KeptPage
   anew = with_keys (kept_of kept x) keys
 
   pieces_same : (y : EntityId) → piece_at (map.insert kept x anew) y ≡ piece_at kept y
   pieces_same y = ⊎_elim
       (λ own.
-      ap (λ z. piece_at (map.insert kept x anew) z) own.1 ∙ ap (λ (was : Record Kept). piece_held was.held) (record_here kept x anew)
+      ap (λ z. piece_at (map.insert kept x anew) z) own.1 ∙ ap (λ (was : Record KeptPage). piece_held was.held) (record_here kept x anew)
       ∙ piece_same (kept_of kept x).held keys ∙ ap (piece_at kept) (sym own.1))
-      (λ other. ap (λ (was : Record Kept). piece_held was.held) (record_elsewhere kept x anew y other.1))
+      (λ other. ap (λ (was : Record KeptPage). piece_held was.held) (record_elsewhere kept x anew y other.1))
       (id_tells y x)
 
   held_there : held_with (beside s2) anew.held ≡ held_with (beside s) (kept_of kept x).held
   held_there = text_same (beside s) (beside s2) (kept_of kept x).held keys texts
 
-  seen_there : (held : Option (Held Kept)) → is_some held ≡ true → is_some (held_with (beside s) held) ≡ true
+  seen_there : (held : Option (Held KeptPage)) → is_some held ≡ true → is_some (held_with (beside s) held) ≡ true
   seen_there None is = is
   seen_there (Some held) is = refl
 

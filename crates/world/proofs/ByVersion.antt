@@ -13,7 +13,7 @@ use Rattle.replay_model.specs.{Records.Records, Union.Meaning}
 use Rattle.replay_model.specs.Versions.{all_by, holders, is_holder, meaning_by, version_at, with_version}
 use Rattle.replay_model.proofs.Versions.{has-holders, has-without, holders-rise}
 use Rattle.rdf_term.specs.declared.triple.Triple.{Triple}
-use Rattle.world.specs.declared.kept.Kept.{Kept}
+use Rattle.world.specs.declared.kept.KeptPage.{KeptPage}
 use Rattle.world.specs.Holders.{AreBy, ByVersion, held_by, other_version, with_holder, without_holder}
 use Rattle.world.specs.Keeping.{KeptRecords, kept_of}
 use Rattle.world.specs.WorldState.{AreHolders, differ, first_of, stale_by, version_in, with_version_of}
@@ -102,7 +102,7 @@ pub moved_by_two : (ids : ByVersion) (x : EntityId) (v : MappingVersion) → (mo
 moved_by_two ids x One = refl
 moved_by_two ids x Two = refl
 
-module _ (ids ids2 : ByVersion) (kept : KeptRecords) (x : EntityId) (n : Record Kept) (h : AreBy ids kept)
+module _ (ids ids2 : ByVersion) (kept : KeptRecords) (x : EntityId) (n : Record KeptPage) (h : AreBy ids kept)
     (by_one_rises : IsRising entity_cmp ids2.by_one) (by_two_rises : IsRising entity_cmp ids2.by_two)
     (by_one_same : (y : EntityId) → eq_by_cmp entity_cmp y x ≡ false → has entity_cmp y ids2.by_one ≡ has entity_cmp y ids.by_one)
     (by_two_same : (y : EntityId) → eq_by_cmp entity_cmp y x ≡ false → has entity_cmp y ids2.by_two ≡ has entity_cmp y ids.by_two)
@@ -115,10 +115,10 @@ module _ (ids ids2 : ByVersion) (kept : KeptRecords) (x : EntityId) (n : Record 
     each = λ y. ⊎_elim
         (λ own.
         ap (λ z. has entity_cmp z ids2.by_one || has entity_cmp z ids2.by_two) own.1 ∙ here
-        ∙ ap (λ (was : Record Kept). is_some was.held) (sym (record_here kept x n)) ∙ ap (λ z. is_some (kept_of (map.insert kept x n) z).held) (sym own.1))
+        ∙ ap (λ (was : Record KeptPage). is_some was.held) (sym (record_here kept x n)) ∙ ap (λ z. is_some (kept_of (map.insert kept x n) z).held) (sym own.1))
         (λ other.
         ap (λ b. b || has entity_cmp y ids2.by_two) (by_one_same y other.0) ∙ ap (λ b. has entity_cmp y ids.by_one || b) (by_two_same y other.0)
-        ∙ h.each y ∙ ap (λ (was : Record Kept). is_some was.held) (sym (record_elsewhere kept x n y other.1)))
+        ∙ h.each y ∙ ap (λ (was : Record KeptPage). is_some was.held) (sym (record_elsewhere kept x n y other.1)))
         (id_tells y x);
     once = λ y there. ⊎_elim
         (λ own. ap (λ z. has entity_cmp z ids2.by_one) own.1 ∙ apart (ap (λ z. has entity_cmp z ids2.by_two) (sym own.1) ∙ there))
@@ -127,7 +127,7 @@ module _ (ids ids2 : ByVersion) (kept : KeptRecords) (x : EntityId) (n : Record 
   }
 
 -- an entity's page is mapped by a version
-pub by_put : (ids : ByVersion) (kept : KeptRecords) (x : EntityId) (v : MappingVersion) (n : Record Kept) → AreBy ids kept → is_some n.held ≡ true → AreBy (moved_to ids x v) (map.insert kept x n)
+pub by_put : (ids : ByVersion) (kept : KeptRecords) (x : EntityId) (v : MappingVersion) (n : Record KeptPage) → AreBy ids kept → is_some n.held ≡ true → AreBy (moved_to ids x v) (map.insert kept x n)
 by_put ids kept x One n h holds =
     by_moved ids (moved_to ids x One) kept x n h (put_rises x ids.by_one h.by_one_rises) (drop_rises x ids.by_two h.by_two_rises)
     (put_other x ids.by_one) (drop_other x ids.by_two h.by_two_rises)
@@ -140,7 +140,7 @@ by_put ids kept x Two n h holds =
     (λ _. drop_own x ids.by_one h.by_one_rises)
 
 -- an entity's page goes
-pub by_drop : (ids : ByVersion) (kept : KeptRecords) (x : EntityId) (n : Record Kept) → AreBy ids kept → is_some n.held ≡ false → AreBy (moved_out ids x) (map.insert kept x n)
+pub by_drop : (ids : ByVersion) (kept : KeptRecords) (x : EntityId) (n : Record KeptPage) → AreBy ids kept → is_some n.held ≡ false → AreBy (moved_out ids x) (map.insert kept x n)
 by_drop ids kept x n h holds =
     by_moved ids (moved_out ids x) kept x n h (drop_rises x ids.by_one h.by_one_rises) (drop_rises x ids.by_two h.by_two_rises)
     (drop_other x ids.by_one h.by_one_rises) (drop_other x ids.by_two h.by_two_rises)
@@ -148,7 +148,7 @@ by_drop ids kept x n h holds =
     (λ _. drop_own x ids.by_one h.by_one_rises)
 
 -- an entity's page stays
-pub by_keep : (ids : ByVersion) (kept : KeptRecords) (x : EntityId) (n : Record Kept) → AreBy ids kept → is_some n.held ≡ is_some (kept_of kept x).held → AreBy ids (map.insert kept x n)
+pub by_keep : (ids : ByVersion) (kept : KeptRecords) (x : EntityId) (n : Record KeptPage) → AreBy ids kept → is_some n.held ≡ is_some (kept_of kept x).held → AreBy ids (map.insert kept x n)
 by_keep ids kept x n h same =
     by_moved ids ids kept x n h h.by_one_rises h.by_two_rises (λ _ _. refl) (λ _ _. refl) (h.each x ∙ sym same) (h.once x)
 
@@ -169,10 +169,6 @@ module _ (by_two : List EntityId) (rising : IsRising entity_cmp by_two) (x : Ent
   pub meaning_other : (meaning : MappingVersion → Meaning Triple) (v : MappingVersion) (y : EntityId) → y ≢ x → (rev : ℕ) (bytes : List ℕ)
       → meaning_by meaning (with_version v x by_two) y rev bytes ≡ meaning_by meaning by_two y rev bytes
   meaning_other meaning v y other rev bytes = ap (λ w. meaning w y rev bytes) (version_other v y other)
-
-  pub version_rises : (v : MappingVersion) → IsRising entity_cmp (with_version v x by_two)
-  version_rises One = drop_rises x by_two rising
-  version_rises Two = put_rises x by_two rising
 
   differ_itself : (v : MappingVersion) → differ v v ≡ false
   differ_itself One = refl

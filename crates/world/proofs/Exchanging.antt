@@ -28,7 +28,7 @@ use Rattle.fetched_pages.specs.{declared.comparing.KnownPage.KnownPage, declared
 use Rattle.fetched_pages.specs.declared.fetching.FetchedPage.TheVariants.{Whole, Changed}
 use Rattle.fetched_pages.specs.{declared.fetching.Wanted.Wanted, Compared.AreChanged, Compared.HasEntity, Compared.IsKnownPage}
 use Rattle.fetched_pages.specs.{Fetched.IsFetched, Listed.AreTextsOf, Listed.IsListed, Meaning.meaning}
-use Rattle.world.specs.{declared.kept.Kept.Kept, declared.kept.PageTimes.PageTimes, declared.swapping.PageExchange.PageExchange}
+use Rattle.world.specs.{declared.kept.KeptPage.KeptPage, declared.kept.PageTimes.PageTimes, declared.swapping.PageExchange.PageExchange}
 use Rattle.world.specs.{Holders.AreBy, Holders.ByVersion, Holders.held_by, InStep.AreInStep}
 use Rattle.world.specs.Keeping.{KeptRecords, PieceTexts, held_with, kept_of, keys_held, seen}
 use Rattle.world.specs.Swapped.{HasSwapped, MaySwap, MaySwapParts, wanted_meaning, with_counts}
@@ -163,7 +163,7 @@ revision_of None = 0
 revision_of (Some h) = h.revision
 
 -- the times of a held page are those of its triples, where the store keeps its keys
-times_there : (version : MappingVersion) (s s2 : StoreState) (f : PieceTexts) (x : EntityId) (held : Option (Held Kept)) (before : Held Bytes) (old : Entity)
+times_there : (version : MappingVersion) (s s2 : StoreState) (f : PieceTexts) (x : EntityId) (held : Option (Held KeptPage)) (before : Held Bytes) (old : Entity)
     → IsTimedHeld version s f x held → held_with f held ≡ Some before → document_of x before.content ≡ Some (AnEntity old)
     → ((t : Triple) → has triple_cmp t (triples_held (meaning version) x (held_with f held)) ≡ true → 0 < count_of (counts_in s2) t)
     → KeepsKeys s s2
@@ -185,7 +185,7 @@ times_there version s s2 f x (Some h) before old timed is document owned keeps =
         (λ t there. owned t (sym (listed_meant version x h.revision (document_of x bytes) known.counts timed.triples timed.listed t) ∙ there)))
 
 -- what is known of a held page
-has_entity : (version : MappingVersion) (s : StoreState) (f : PieceTexts) (x : EntityId) (held : Option (Held Kept)) (page : KnownPage)
+has_entity : (version : MappingVersion) (s : StoreState) (f : PieceTexts) (x : EntityId) (held : Option (Held KeptPage)) (page : KnownPage)
     → IsTimedHeld version s f x held → Some page.counts ≡ counts_held held → held_with f held ≡ Some (record { revision = page.rev; content = page.bytes.now }) → HasEntity x page
 has_entity version s f x None page timed counted is = absurd (true≢false (ap is_some counted))
 has_entity version s f x (Some h) page timed counted is = by h.content.times timed counted

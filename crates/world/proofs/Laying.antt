@@ -9,7 +9,7 @@ use Rattle.text_region.specs.{declared.piece.Piece.Piece, Region.bytes_of}
 use Rattle.triple_store.specs.Room.{terms_of}
 use Rattle.triple_store.specs.StoreState.{AreLaid, StoreState, beside, terms_in as terms_stored}
 use Rattle.replay_model.specs.{Records.Bytes, Records.record_of, Union.Meaning}
-use Rattle.world.specs.{declared.kept.Kept.Kept, InStep.IsKept}
+use Rattle.world.specs.{declared.kept.KeptPage.KeptPage, InStep.IsKept}
 use Rattle.world.specs.Keeping.{KeptRecords, held_with, kept_of, piece_at, piece_held, seen}
 use Rattle.world.specs.Laid.{IsLaid, terms_in}
 use Rattle.world.proofs.{Moving.held_is, Rooming.stored_union}
@@ -26,7 +26,7 @@ module _ (m : Meaning Triple) (s : StoreState) (kept : KeptRecords) (h : IsKept 
   same_terms : terms_stored s ≡ terms_in m (seen s kept)
   same_terms = ap (flat_map terms_of) (stored_union m s kept h)
 
-  page_by : (x : EntityId) (hb : Held Bytes) (found : Option (Held Kept)) → (kept_of kept x).held ≡ found → held_with (beside s) found ≡ Some hb
+  page_by : (x : EntityId) (hb : Held Bytes) (found : Option (Held KeptPage)) → (kept_of kept x).held ≡ found → held_with (beside s) found ≡ Some hb
       → (piece : Piece) × (piece_at kept x ≡ Some piece) × (bytes_of s.texts piece ≡ Some hb.content)
   page_by x hb None e is = absurd (true≢false (sym (ap is_some is)))
   page_by x hb (Some hk) e is =
@@ -34,7 +34,7 @@ module _ (m : Meaning Triple) (s : StoreState) (kept : KeptRecords) (h : IsKept 
       let live : is_some (beside s hk.content.piece) ≡ true = h.held.live x hk.content.piece at in
       (hk.content.piece, at, lies.live hk.content.piece live ∙ some_is (beside s hk.content.piece) live ∙ ap (λ z. Some z) (ap content_held is))
 
-  page_there : (x : EntityId) (piece : Piece) (found : Option (Held Kept)) → (kept_of kept x).held ≡ found → piece_held found ≡ Some piece → (hb : Held Bytes) × ((record_of (seen s kept) x).held ≡ Some hb)
+  page_there : (x : EntityId) (piece : Piece) (found : Option (Held KeptPage)) → (kept_of kept x).held ≡ found → piece_held found ≡ Some piece → (hb : Held Bytes) × ((record_of (seen s kept) x).held ≡ Some hb)
   page_there x piece None e is = absurd (true≢false (sym (ap is_some is)))
   page_there x piece (Some hk) e is = (record { revision = hk.revision; content = unwrap_or (beside s hk.content.piece) [] }, held_is s kept x ∙ ap (held_with (beside s)) e)
 

@@ -1,6 +1,7 @@
 pub mod Anew
 pub mod ByVersion
 pub mod Changing
+pub mod DueEvent
 pub mod Entries
 pub mod Fit
 pub mod Giving

@@ -14,7 +14,7 @@ use Rattle.triple_store.specs.Counts.{Counts, Exchanges, count_of}
 use Rattle.triple_store.specs.StoreState.{AreKeysOf, HasKey, IsSound, KeepsKeys, StoreState, beside, counts_in}
 use Rattle.triple_store.specs.Updates.{AreStored}
 use Rattle.replay_model.specs.{Records.Bytes, Records.Records, Records.record_of, Union.Meaning, Union.owners, Union.triples_held}
-use Rattle.world.specs.{declared.kept.Kept.Kept, InStep.CountsOwners, InStep.IsHeld, InStep.IsKept, InStep.triples_kept}
+use Rattle.world.specs.{declared.kept.KeptPage.KeptPage, InStep.CountsOwners, InStep.IsHeld, InStep.IsKept, InStep.triples_kept}
 use Rattle.world.specs.Keeping.{KeptRecords, PieceTexts, held_with, kept_of, keys_held, piece_at, piece_held, record_with, records_with, seen}
 use Rattle.world.proofs.{Owning.counted_moved, Owning.has_owner, Owning.held_agrees, Pieced.id_tells}
 use Rattle.world.proofs.Values.{changed, get-values, values-insert}
@@ -23,11 +23,11 @@ use Rattle.world.proofs.Values.{changed, get-values, values-insert}
 pub seen_of : (f : PieceTexts) (kept : KeptRecords) (x : EntityId) → record_of (records_with f kept) x ≡ record_with f (kept_of kept x)
 seen_of f kept x = ap (λ o. unwrap_or o blank) (get-values (record_with f) kept x) ∙ by (map.get kept x)
   where
-    by : (found : Option (Record Kept)) → unwrap_or (changed (record_with f) found) blank ≡ record_with f (unwrap_or found blank)
+    by : (found : Option (Record KeptPage)) → unwrap_or (changed (record_with f) found) blank ≡ record_with f (unwrap_or found blank)
     by None = refl
     by (Some r) = refl
 
-revision_same : (f : PieceTexts) (h : Option (Held Kept)) → held_revision (held_with f h) ≡ held_revision h
+revision_same : (f : PieceTexts) (h : Option (Held KeptPage)) → held_revision (held_with f h) ≡ held_revision h
 revision_same f None = refl
 revision_same f (Some h) = refl
 
@@ -60,19 +60,19 @@ module _ {H : Type 0} (records : map.FinMap entity_cmp (Record H)) (x : EntityId
       (id_tells y x)
 
 module _ (f k : PieceTexts) where
-  pub held_same : (h : Option (Held Kept)) → ((p : Piece) → piece_held h ≡ Some p → k p ≡ f p) → held_with k h ≡ held_with f h
+  pub held_same : (h : Option (Held KeptPage)) → ((p : Piece) → piece_held h ≡ Some p → k p ≡ f p) → held_with k h ≡ held_with f h
   held_same None texts = refl
   held_same (Some h) texts = ap (λ (o : Option Bytes). Some (record { revision = h.revision; content = unwrap_or o [] })) (texts h.content.piece refl)
 
-  record_same : (r : Record Kept) → ((p : Piece) → piece_held r.held ≡ Some p → k p ≡ f p) → record_with k r ≡ record_with f r
+  record_same : (r : Record KeptPage) → ((p : Piece) → piece_held r.held ≡ Some p → k p ≡ f p) → record_with k r ≡ record_with f r
   record_same r texts = ap (λ (h : Option (Held Bytes)). record { state = r.state; held = h; reconciled = r.reconciled }) (held_same r.held texts)
 
-  changed_same : (found : Option (Record Kept)) → ((p : Piece) → piece_held (unwrap_or found blank).held ≡ Some p → k p ≡ f p) → changed (record_with k) found ≡ changed (record_with f) found
+  changed_same : (found : Option (Record KeptPage)) → ((p : Piece) → piece_held (unwrap_or found blank).held ≡ Some p → k p ≡ f p) → changed (record_with k) found ≡ changed (record_with f) found
   changed_same None texts = refl
   changed_same (Some r) texts = ap (λ z. Some z) (record_same r texts)
 
   -- where what the others hold has its bytes, the others' records are seen as they were
-  pub seen_moved : (kept : KeptRecords) (x : EntityId) (n : Record Kept) → ((y : EntityId) (p : Piece) → y ≢ x → piece_at kept y ≡ Some p → k p ≡ f p)
+  pub seen_moved : (kept : KeptRecords) (x : EntityId) (n : Record KeptPage) → ((y : EntityId) (p : Piece) → y ≢ x → piece_at kept y ≡ Some p → k p ≡ f p)
       → records_with k (map.insert kept x n) ≡ map.insert (records_with f kept) x (record_with k n)
   seen_moved kept x n texts =
       values-insert (record_with k) kept x n
@@ -142,7 +142,7 @@ exchanged_same c d gone came other same h = record {
 }
 
 module _ (m m2 : Meaning Triple) (x : EntityId) (agree : (y : EntityId) → y ≢ x → (rev : ℕ) (bytes : Bytes) → m2 y rev bytes ≡ m y rev bytes)
-    (s s2 : StoreState) (kept : KeptRecords) (n : Record Kept) (h : IsKept m s kept)
+    (s s2 : StoreState) (kept : KeptRecords) (n : Record KeptPage) (h : IsKept m s kept)
     (texts : (y : EntityId) (p : Piece) → y ≢ x → piece_at kept y ≡ Some p → beside s2 p ≡ beside s p) where
   -- what is seen after the record is put in
   pub seen_put : seen s2 (map.insert kept x n) ≡ map.insert (seen s kept) x (record_with (beside s2) n)
@@ -160,7 +160,7 @@ module _ (m m2 : Meaning Triple) (x : EntityId) (agree : (y : EntityId) → y �
       → AreKeysOf s2 (keys_held (kept_of (map.insert kept x n) y).held) (triples_kept m2 (beside s2) (map.insert kept x n) y)
   others_keyed counted keeps y other =
       let same : triples_kept m2 (beside s2) (map.insert kept x n) y ≡ triples_kept m (beside s) kept y =
-      ap (λ (was : Record Kept). triples_held m2 y (held_with (beside s2) was.held)) (record_elsewhere kept x n y other)
+      ap (λ (was : Record KeptPage). triples_held m2 y (held_with (beside s2) was.held)) (record_elsewhere kept x n y other)
       ∙ ap (triples_held m2 y) (held_same (beside s) (beside s2) (kept_of kept y).held (λ p. texts y p other))
       ∙ held_agrees m m2 x agree y other (held_with (beside s) (kept_of kept y).held) in
       let owned : (t : Triple) → has triple_cmp t (triples_kept m (beside s) kept y) ≡ true → 0 < count_of (counts_in s2) t = λ t there.
@@ -170,7 +170,7 @@ module _ (m m2 : Meaning Triple) (x : EntityId) (agree : (y : EntityId) → y �
       let count : count_of (counts_in s2) t ≡ owners triple_cmp m2 (seen s2 (map.insert kept x n)) t = counted.owned t in
       omega arith in
       subst (λ (ts : List Triple). AreKeysOf s2 (keys_held (kept_of (map.insert kept x n) y).held) ts) (sym same)
-      (subst (λ (was : Record Kept). AreKeysOf s2 (keys_held was.held) (triples_kept m (beside s) kept y)) (sym (record_elsewhere kept x n y other))
+      (subst (λ (was : Record KeptPage). AreKeysOf s2 (keys_held was.held) (triples_kept m (beside s) kept y)) (sym (record_elsewhere kept x n y other))
       (keys_stay s s2 (keys_held (kept_of kept y).held) (triples_kept m (beside s) kept y) (h.keyed y) keeps owned))
 
   -- a record is put in: what it holds is stored, and what was held there before is not
@@ -185,7 +185,7 @@ module _ (m m2 : Meaning Triple) (x : EntityId) (agree : (y : EntityId) → y �
     held = held;
     keyed = λ y. ⊎_elim
         (λ own. subst (λ (z : EntityId). AreKeysOf s2 (keys_held (kept_of (map.insert kept x n) z).held) (triples_kept m2 (beside s2) (map.insert kept x n) z)) (sym own.1)
-        (subst (λ (was : Record Kept). AreKeysOf s2 (keys_held was.held) (triples_held m2 x (held_with (beside s2) was.held))) (sym (record_here kept x n)) keyed))
+        (subst (λ (was : Record KeptPage). AreKeysOf s2 (keys_held was.held) (triples_held m2 x (held_with (beside s2) was.held))) (sym (record_here kept x n)) keyed))
         (λ other. others_keyed (put_counted moves) keeps y other.1)
         (id_tells y x);
   }

@@ -16,7 +16,7 @@ use Rattle.replay_model.specs.{Records.Bytes, Records.Records, Records.record_of
 use Rattle.replay_model.specs.Versions.{all_by, is_holder, with_version}
 use Rattle.replay_model.proofs.{PlayedVersions.by_two-event, PlayedVersions.by_two-remapped, RecordOf.record_of-empty}
 use Rattle.replay_model.proofs.Versions.{has-holders, holders-rise}
-use Rattle.world.specs.{declared.applied.Applied.Applied, declared.applied.Outcome.Outcome}
+use Rattle.world.specs.{declared.applied.AppliedEvent.AppliedEvent, declared.applied.Outcome.Outcome}
 use Rattle.world.specs.declared.applied.Outcome.TheVariants.{Same, Dropped}
 use Rattle.world.specs.{Applying.Applies, Applying.outcome_of_reply, WorldState.AreHolders, WorldState.WorldState, WorldState.by_two_after}
 
@@ -53,7 +53,7 @@ by_outcome version x by_two before named = by
     by false false rev reply = left before named
 
 -- an application makes of the versions what the play says
-pub applied_by_play : (known : Option Contents) (folder : List ℕ) (old new : WorldState) (applied : Applied) → (a : Applies known folder old.replay new.replay applied) → AreHolders old.by_two old.replay.played.records
+pub applied_by_play : (known : Option Contents) (folder : List ℕ) (old new : WorldState) (applied : AppliedEvent) → (a : Applies known folder old.replay new.replay applied) → AreHolders old.by_two old.replay.played.records
     → by_two_after applied.outcome old.mapping applied.event.entity old.by_two
     ≡ by_two_after_event old.mapping (λ _ _. a.reply) applied.event (record_of old.replay.played.records applied.event.entity) old.by_two
 applied_by_play known folder old new applied a are =
@@ -73,7 +73,7 @@ all_are_holders One records = record { rising = tt; holding = λ x there. absurd
 all_are_holders Two records = record { rising = holders-rise records; holding = λ x there. sym (has-holders records x) ∙ there }
 
 -- after an application all that is held is mapped by the version by which all was
-pub applied_by_one : (known : Option Contents) (folder : List ℕ) (old new : WorldState) (applied : Applied) → Applies known folder old.replay new.replay applied → new.mapping ≡ old.mapping
+pub applied_by_one : (known : Option Contents) (folder : List ℕ) (old new : WorldState) (applied : AppliedEvent) → Applies known folder old.replay new.replay applied → new.mapping ≡ old.mapping
     → new.by_two ≡ by_two_after applied.outcome old.mapping applied.event.entity old.by_two → old.by_two ≡ all_by old.mapping old.replay.played.records → new.by_two ≡ all_by new.mapping new.replay.played.records
 applied_by_one known folder old new applied a same by_two one =
     let are : AreHolders old.by_two old.replay.played.records = subst (λ xs. AreHolders xs old.replay.played.records) (sym one) (all_are_holders old.mapping old.replay.played.records) in

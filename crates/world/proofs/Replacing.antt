@@ -13,7 +13,7 @@ use Rattle.triple_store.specs.Counts.{Counts, Exchanges, count_of}
 use Rattle.triple_store.specs.StoreState.{AreKeysOf, HasKey, IsSound, KeepsKeys, StoreState, beside, counts_in}
 use Rattle.triple_store.specs.Stored.{Changes}
 use Rattle.replay_model.specs.{Records.Bytes, Records.Records, Records.record_of, Union.Meaning, Union.owners, Union.triples_held}
-use Rattle.world.specs.{declared.kept.Kept.Kept, InStep.CountsOwners, InStep.IsHeld, InStep.IsKept, InStep.triples_kept}
+use Rattle.world.specs.{declared.kept.KeptPage.KeptPage, InStep.CountsOwners, InStep.IsHeld, InStep.IsKept, InStep.triples_kept}
 use Rattle.world.specs.Keeping.{FreesPiece, KeptRecords, PieceTexts, held_with, kept_of, keys_held, piece_at, piece_held, record_with, seen}
 use Rattle.world.proofs.Moving.{held_same, record_here, record_elsewhere, kept_put, keys_moved, keys_same, keys_stay, seen_again, seen_of, seen_put}
 use Rattle.world.proofs.{Owning.has_owner, Pieced.beside as others_text, Pieced.held_again, Pieced.id_tells, Pieced.moved_held}
@@ -47,12 +47,12 @@ keeps_through s s1 s2 s3 before keeps counts after = record {
 }
 
 module _ (m m2 : Meaning Triple) (x : EntityId) (agree : (y : EntityId) → y ≢ x → (rev : ℕ) (bytes : Bytes) → m2 y rev bytes ≡ m y rev bytes)
-    (s s2 s3 : StoreState) (kept : KeptRecords) (n : Record Kept) (h : IsKept m s kept)
+    (s s2 s3 : StoreState) (kept : KeptRecords) (n : Record KeptPage) (h : IsKept m s kept)
     (middle : (p : Piece) → piece_held n.held ≢ Some p → beside s2 p ≡ beside s p)
     (fresh : (p : Piece) → piece_held n.held ≡ Some p → (beside s p ≡ None) × (is_some (beside s2 p) ≡ true))
     (freed : FreesPiece (piece_at kept x) (beside s2) (beside s3)) where
   after_is : piece_at (map.insert kept x n) x ≡ piece_held n.held
-  after_is = ap (λ (was : Record Kept). piece_held was.held) (record_here kept x n)
+  after_is = ap (λ (was : Record KeptPage). piece_held was.held) (record_here kept x n)
 
   -- the piece that comes isn't the one that is freed
   pub new_text : (p : Piece) → piece_held n.held ≡ Some p → beside s3 p ≡ beside s2 p
@@ -60,7 +60,7 @@ module _ (m m2 : Meaning Triple) (x : EntityId) (agree : (y : EntityId) → y �
       (λ was. true≢false (sym (h.held.live x p was) ∙ ap is_some (fresh p is).0))
 
   elsewhere : (y : EntityId) → y ≢ x → piece_at (map.insert kept x n) y ≡ piece_at kept y
-  elsewhere y other = ap (λ (was : Record Kept). piece_held was.held) (record_elsewhere kept x n y other)
+  elsewhere y other = ap (λ (was : Record KeptPage). piece_held was.held) (record_elsewhere kept x n y other)
 
   comes : (p : Piece) → piece_at (map.insert kept x n) x ≡ Some p → (beside s p ≡ None) × (is_some (beside s3 p) ≡ true)
   comes p is =
@@ -89,7 +89,7 @@ module _ (m m2 : Meaning Triple) (x : EntityId) (agree : (y : EntityId) → y �
   replaced_seen = seen_put m m2 x agree s s3 kept n h others
 
 -- what an application leaves of a record that holds this
-abbrev pub with_page : State → Option Event → ℕ → Kept → Record Kept
+abbrev pub with_page : State → Option Event → ℕ → KeptPage → Record KeptPage
 with_page state reconciled rev content = record { state = state; held = Some (record { revision = rev; content = content }); reconciled = reconciled }
 
 abbrev pub with_bytes : State → Option Event → ℕ → Bytes → Record Bytes
@@ -97,7 +97,7 @@ with_bytes state reconciled rev bytes = record { state = state; held = Some (rec
 
 module _ (m m2 : Meaning Triple) (x : EntityId) (agree : (y : EntityId) → y ≢ x → (rev : ℕ) (bytes : Bytes) → m2 y rev bytes ≡ m y rev bytes)
     (s s1 s2 s3 : StoreState) (kept : KeptRecords)
-    (state : State) (reconciled : Option Event) (rev : ℕ) (content : Kept) (bytes : Bytes) (ts : List Triple) (old : List Key)
+    (state : State) (reconciled : Option Event) (rev : ℕ) (content : KeptPage) (bytes : Bytes) (ts : List Triple) (old : List Key)
     (h : IsKept m s kept)
     (placed : Changes (beside s) (beside s1) content.piece None (Some bytes))
     (place_kept : (key : Key) (t : Triple) → HasKey s key t → HasKey s1 key t)
@@ -182,7 +182,7 @@ module _ (m m2 : Meaning Triple) (x : EntityId) (agree : (y : EntityId) → y �
     (h : IsKept m s kept)
     (texts : (p : Piece) → beside s2 p ≡ beside s p)
     (freed : FreesPiece (piece_at kept x) (beside s2) (beside s3)) where
-  abbrev empty_record : Record Kept
+  abbrev empty_record : Record KeptPage
   empty_record = record { state = state; held = None; reconciled = reconciled }
 
   no_page : (p : Piece) → piece_held None ≡ Some p → (beside s p ≡ None) × (is_some (beside s2 p) ≡ true)
@@ -212,13 +212,13 @@ module _ (m m2 : Meaning Triple) (x : EntityId) (agree : (y : EntityId) → y �
 
 -- the page that is held stays
 module _ (m : Meaning Triple) (s : StoreState) (kept : KeptRecords) (x : EntityId) (state : State) (reconciled : Option Event) (h : IsKept m s kept) where
-  abbrev kept_record : Record Kept
+  abbrev kept_record : Record KeptPage
   kept_record = record { state = state; held = (kept_of kept x).held; reconciled = reconciled }
 
   pieces_stay : (y : EntityId) → piece_at (map.insert kept x kept_record) y ≡ piece_at kept y
   pieces_stay y = ⊎_elim
-      (λ own. ap (λ z. piece_at (map.insert kept x kept_record) z) own.1 ∙ ap (λ (was : Record Kept). piece_held was.held) (record_here kept x kept_record) ∙ ap (piece_at kept) (sym own.1))
-      (λ other. ap (λ (was : Record Kept). piece_held was.held) (record_elsewhere kept x kept_record y other.1))
+      (λ own. ap (λ z. piece_at (map.insert kept x kept_record) z) own.1 ∙ ap (λ (was : Record KeptPage). piece_held was.held) (record_here kept x kept_record) ∙ ap (piece_at kept) (sym own.1))
+      (λ other. ap (λ (was : Record KeptPage). piece_held was.held) (record_elsewhere kept x kept_record y other.1))
       (id_tells y x)
 
   pub stayed_seen : seen s (map.insert kept x kept_record) ≡ map.insert (seen s kept) x (record { state = state; held = (record_of (seen s kept) x).held; reconciled = reconciled })

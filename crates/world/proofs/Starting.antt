@@ -7,7 +7,7 @@ use Rattle.rdf_term.specs.declared.triple.Triple.{Triple}
 use Rattle.text_region.specs.declared.piece.Piece.{Piece}
 use Rattle.triple_store.specs.Counts.{Counts}
 use Rattle.triple_store.specs.StoreState.{AreKeysOf, IsSound, StoreState, beside, counts_in, limit_of}
-use Rattle.world.specs.{Holders.AreBy, Holders.ByVersion, WorldState.HoldingsState, declared.kept.Kept.Kept}
+use Rattle.world.specs.{Holders.AreBy, Holders.ByVersion, WorldState.HoldingsState, declared.kept.KeptPage.KeptPage}
 use Rattle.world.specs.{InStep.CountsOwners, InStep.IsKept, Timed.AreTimed, Timed.IsTimedHeld}
 use Rattle.world.specs.Keeping.{KeptRecords, held_with, kept_of, keys_held, piece_at, piece_held, record_with, seen}
 use Rattle.entity_json.specs.Document.{unfit_of}
@@ -32,12 +32,12 @@ nothing_kept m s sound counts texts = record {
     once = λ x y p is _. absurd (none x p is);
     only = λ p live. absurd (true≢false (sym live ∙ ap is_some (texts p)));
   };
-  keyed = λ x. subst (λ (was : Record Kept). AreKeysOf s (keys_held was.held) (triples_held m x (held_with (beside s) was.held))) (sym (none_kept x))
+  keyed = λ x. subst (λ (was : Record KeptPage). AreKeysOf s (keys_held was.held) (triples_held m x (held_with (beside s) was.held))) (sym (none_kept x))
       (record { rising = tt; each = λ _ there. absurd (true≢false (sym there)); all = λ _ there. absurd (true≢false (sym there)) });
 }
   where
     none : (x : EntityId) (p : Piece) → piece_at map.empty x ≡ Some p → ⊥
-    none x p is = true≢false (sym (ap is_some (sym (ap (λ (was : Record Kept). piece_held was.held) (none_kept x)) ∙ is)))
+    none x p is = true≢false (sym (ap is_some (sym (ap (λ (was : Record KeptPage). piece_held was.held) (none_kept x)) ∙ is)))
 
 pub starts : (m : Meaning Triple) (s : StoreState) (kept : KeptRecords) → IsSound s → counts_in s ≡ map.empty → ((p : Piece) → beside s p ≡ None) → kept ≡ map.empty → IsKept m s kept
 starts m s kept sound counts texts none = subst (IsKept m s) (sym none) (nothing_kept m s sound counts texts)
@@ -52,7 +52,7 @@ none_by ids kept no_ids none =
     subst (λ (i : ByVersion). AreBy i kept) (sym no_ids) (subst (AreBy (record { by_one = []; by_two = [] })) (sym none) (record {
       by_one_rises = tt;
       by_two_rises = tt;
-      each = λ x. sym (ap (λ (was : Record Kept). is_some was.held) (none_kept x));
+      each = λ x. sym (ap (λ (was : Record KeptPage). is_some was.held) (none_kept x));
       once = λ x _. refl;
     }))
 
@@ -63,4 +63,4 @@ no_documents x = subst (λ (r : Record Bytes). HoldsDocument unfit_of x r.held) 
 -- and nothing is known
 pub none_timed : (s : StoreState) (by_two : List EntityId) (kept : KeptRecords) → kept ≡ map.empty → AreTimed s by_two kept
 none_timed s by_two kept none =
-    subst (AreTimed s by_two) (sym none) (λ x. subst (λ (was : Record Kept). IsTimedHeld (version_at by_two x) s (beside s) x was.held) (sym (none_kept x)) tt)
+    subst (AreTimed s by_two) (sym none) (λ x. subst (λ (was : Record KeptPage). IsTimedHeld (version_at by_two x) s (beside s) x was.held) (sym (none_kept x)) tt)

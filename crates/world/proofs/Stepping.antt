@@ -14,7 +14,7 @@ use Rattle.triple_store.specs.StoreState.{AreKeysOf, HasKey, IsSound, KeepsKeys,
 use Rattle.triple_store.specs.Stored.{Changes}
 use Rattle.replay_model.specs.{Records.Bytes, Records.Records, Records.record_of, Union.Meaning, Union.triples_held}
 use Rattle.replay_model.specs.Versions.{is_holder, meaning_by, version_at, with_version}
-use Rattle.world.specs.{declared.kept.Kept.Kept, Holders.AreBy, Holders.ByVersion, InStep.AreInStep, InStep.IsKept}
+use Rattle.world.specs.{declared.kept.KeptPage.KeptPage, Holders.AreBy, Holders.ByVersion, InStep.AreInStep, InStep.IsKept}
 use Rattle.world.specs.Keeping.{FreesPiece, KeptRecords, held_keys, held_with, kept_of, keys_held, piece_at, seen, with_keys}
 use Rattle.world.specs.{Timed.AreTimed, Timed.IsTimed, Roomed.HasRoom, WorldState.AreHolders}
 use Rattle.fetched_pages.specs.Meaning.{meaning}
@@ -24,7 +24,7 @@ use Rattle.world.proofs.{Moving.record_elsewhere, Moving.record_here, Moving.see
 use Rattle.world.proofs.Replacing.{came, came_seen, keeps_through, kept_refused, page_held, placed_freed, stayed, stayed_seen, went, went_seen, with_bytes, with_page}
 use Rattle.world.proofs.Timing.{if_moved, owned_kept, timed_put, timed_same, unknown_keys}
 
-some_keys : (h : Option (Held Kept)) (keys : Keys) → is_some h ≡ true → is_some (held_keys h keys) ≡ true
+some_keys : (h : Option (Held KeptPage)) (keys : Keys) → is_some h ≡ true → is_some (held_keys h keys) ≡ true
 some_keys None keys is = is
 some_keys (Some h) keys is = refl
 
@@ -59,7 +59,7 @@ module _ (s : StoreState) (ids : ByVersion) (kept : KeptRecords) (x : EntityId) 
       })
 
   module _ (s1 s2 s3 : StoreState)
-      (state : State) (reconciled : Option Event) (rev : ℕ) (content : Kept) (bytes : Bytes) (ts : List Triple) (old : List Key) (v : MappingVersion)
+      (state : State) (reconciled : Option Event) (rev : ℕ) (content : KeptPage) (bytes : Bytes) (ts : List Triple) (old : List Key) (v : MappingVersion)
       (placed : Changes (beside s) (beside s1) content.piece None (Some bytes))
       (place_kept : (key : Key) (t : Triple) → HasKey s key t → HasKey s1 key t)
       (place_counts : counts_in s1 ≡ counts_in s)
@@ -80,7 +80,7 @@ module _ (s : StoreState) (ids : ByVersion) (kept : KeptRecords) (x : EntityId) 
         ap content_of (page_held before (after v) x (agree v) s s1 s2 s3 kept state reconciled rev content bytes ts old h.kept placed place_kept place_counts keeps texts counts put_kept freed) in
         let owned : (t : Triple) → has triple_cmp t (meaning v x rev bytes) ≡ true → 0 < count_of (counts_in s3) t = λ t there.
         owned_kept (after v) s3 (map.insert kept x (with_page state reconciled rev content)) now x t
-        (ap (λ (r : Record Kept). has triple_cmp t (triples_held (after v) x (held_with (beside s3) r.held))) (record_here kept x (with_page state reconciled rev content))
+        (ap (λ (r : Record KeptPage). has triple_cmp t (triples_held (after v) x (held_with (beside s3) r.held))) (record_here kept x (with_page state reconciled rev content))
         ∙ ap (λ (b : Bytes). has triple_cmp t (after v x rev b)) own_text
         ∙ ap (λ (w : MappingVersion). has triple_cmp t (meaning w x rev bytes)) (own v) ∙ there) in
         timed_put s s3 ids.by_two (with_version v x ids.by_two) kept x (with_page state reconciled rev content) h.timed now
@@ -110,7 +110,7 @@ module _ (s : StoreState) (ids : ByVersion) (kept : KeptRecords) (x : EntityId) 
   module _ (s2 s3 : StoreState) (state : State) (reconciled : Option Event)
       (texts : (p : Piece) → beside s2 p ≡ beside s p)
       (freed : FreesPiece (piece_at kept x) (beside s2) (beside s3)) where
-    abbrev without : Record Kept
+    abbrev without : Record KeptPage
     without = record { state = state; held = None; reconciled = reconciled }
 
     -- the records after the page went
@@ -140,7 +140,7 @@ module _ (s : StoreState) (ids : ByVersion) (kept : KeptRecords) (x : EntityId) 
   -- the page stays
   pub stay_step : (state : State) (reconciled : Option Event) → AreInStep s ids (map.insert kept x (record { state = state; held = (kept_of kept x).held; reconciled = reconciled }))
   stay_step state reconciled =
-      let same : Record Kept = record { state = state; held = (kept_of kept x).held; reconciled = reconciled } in
+      let same : Record KeptPage = record { state = state; held = (kept_of kept x).held; reconciled = reconciled } in
       record {
         kept = stayed before s kept x state reconciled h.kept;
         by = by_keep ids kept x same h.by refl;
@@ -204,7 +204,7 @@ undone_step s ids kept h s1 s2 s3 piece bytes placed place_kept place_counts kee
 pub links : (s : StoreState) (kept : KeptRecords) (x : EntityId) → is_holder (seen s kept) x ≡ is_some (kept_of kept x).held
 links s kept x = ap (λ (was : Record Bytes). is_some was.held) (seen_of (beside s) kept x) ∙ by (kept_of kept x).held
   where
-    by : (h : Option (Held Kept)) → is_some (held_with (beside s) h) ≡ is_some h
+    by : (h : Option (Held KeptPage)) → is_some (held_with (beside s) h) ≡ is_some h
     by None = refl
     by (Some h) = refl
 

@@ -13,7 +13,7 @@ use Rattle.slot_keys.specs.{declared.key.Key.Key, declared.keys.Keys.Keys}
 use Rattle.text_region.specs.declared.piece.Piece.{Piece}
 use Rattle.triple_store.specs.{Counts.count_of, StoreState.KeepsKeys, StoreState.StoreState, StoreState.beside, StoreState.counts_in}
 use Rattle.triple_store.proofs.Lasting.{times_last_if_known}
-use Rattle.world.specs.{declared.kept.Kept.Kept, declared.kept.PageTimes.PageTimes, InStep.IsKept, InStep.triples_kept}
+use Rattle.world.specs.{declared.kept.KeptPage.KeptPage, declared.kept.PageTimes.PageTimes, InStep.IsKept, InStep.triples_kept}
 use Rattle.world.specs.Keeping.{KeptRecords, PieceTexts, held_keys, held_with, kept_of, seen}
 use Rattle.world.specs.Timed.{AreTimed, IsTimed, IsTimedHeld}
 use Rattle.fetched_pages.specs.Meaning.{meaning}
@@ -50,7 +50,7 @@ module _ (version : MappingVersion) (s s2 : StoreState) (x : EntityId) (keeps : 
   if_moved rev bytes keys (Some known) owned h = timed_moved rev bytes keys known owned h
 
   -- and of what is held, where its piece has its text
-  pub timed_last : (f k : PieceTexts) (held : Option (Held Kept)) → held_with k held ≡ held_with f held
+  pub timed_last : (f k : PieceTexts) (held : Option (Held KeptPage)) → held_with k held ≡ held_with f held
       → ((t : Triple) → has triple_cmp t (triples_held (meaning version) x (held_with f held)) ≡ true → 0 < count_of (counts_in s2) t)
       → IsTimedHeld version s f x held → IsTimedHeld version s2 k x held
   timed_last f k None same owned h = tt
@@ -69,11 +69,11 @@ pub timed_other : (s s2 : StoreState) (by_two by_two2 : List EntityId) (kept kep
 timed_other s s2 by_two by_two2 kept kept2 h now keeps y record_same version_same text_same =
     let held = (kept_of kept y).held in
     let means : triples_kept (meaning_by meaning by_two2) (beside s2) kept2 y ≡ triples_held (meaning (version_at by_two y)) y (held_with (beside s) held) =
-    ap (λ (r : Record Kept). triples_held (meaning_by meaning by_two2) y (held_with (beside s2) r.held)) record_same
+    ap (λ (r : Record KeptPage). triples_held (meaning_by meaning by_two2) y (held_with (beside s2) r.held)) record_same
     ∙ ap (triples_held (meaning_by meaning by_two2) y) text_same
     ∙ own_meaning by_two2 y (held_with (beside s) held)
     ∙ ap (λ (v : MappingVersion). triples_held (meaning v) y (held_with (beside s) held)) version_same in
-    subst (λ (r : Record Kept). IsTimedHeld (version_at by_two2 y) s2 (beside s2) y r.held) (sym record_same)
+    subst (λ (r : Record KeptPage). IsTimedHeld (version_at by_two2 y) s2 (beside s2) y r.held) (sym record_same)
     (subst (λ (v : MappingVersion). IsTimedHeld v s2 (beside s2) y held) (sym version_same)
     (timed_last (version_at by_two y) s s2 y keeps (beside s) (beside s2) held text_same
     (λ t there. owned_kept (meaning_by meaning by_two2) s2 kept2 now y t (ap (has triple_cmp t) means ∙ there)) (h y)))
@@ -85,7 +85,7 @@ timed_same s s2 by_two kept h now keeps texts y =
     timed_other s s2 by_two by_two kept kept h now keeps y refl refl (held_same (beside s) (beside s2) (kept_of kept y).held (λ p _. texts p))
 
 -- where the record of one entity is put in
-pub timed_put : (s s2 : StoreState) (by_two by_two2 : List EntityId) (kept : KeptRecords) (x : EntityId) (n : Record Kept) → AreTimed s by_two kept → IsKept (meaning_by meaning by_two2) s2 (map.insert kept x n) → KeepsKeys s s2
+pub timed_put : (s s2 : StoreState) (by_two by_two2 : List EntityId) (kept : KeptRecords) (x : EntityId) (n : Record KeptPage) → AreTimed s by_two kept → IsKept (meaning_by meaning by_two2) s2 (map.insert kept x n) → KeepsKeys s s2
     → ((y : EntityId) → y ≢ x → version_at by_two2 y ≡ version_at by_two y)
     → ((y : EntityId) → y ≢ x → record_of (seen s2 (map.insert kept x n)) y ≡ record_of (seen s kept) y)
     → IsTimedHeld (version_at by_two2 x) s2 (beside s2) x n.held
@@ -93,14 +93,14 @@ pub timed_put : (s s2 : StoreState) (by_two by_two2 : List EntityId) (kept : Kep
 timed_put s s2 by_two by_two2 kept x n h now keeps versions records own y = ⊎_elim
     (λ same.
     subst (λ (z : EntityId). IsTimedHeld (version_at by_two2 z) s2 (beside s2) z (kept_of (map.insert kept x n) z).held) (sym same.1)
-    (subst (λ (r : Record Kept). IsTimedHeld (version_at by_two2 x) s2 (beside s2) x r.held) (sym (record_here kept x n)) own))
+    (subst (λ (r : Record KeptPage). IsTimedHeld (version_at by_two2 x) s2 (beside s2) x r.held) (sym (record_here kept x n)) own))
     (λ other.
     timed_other s s2 by_two by_two2 kept (map.insert kept x n) h now keeps y (record_elsewhere kept x n y other.1) (versions y other.1)
-    (ap (λ (r : Record Kept). held_with (beside s2) r.held) (sym (record_elsewhere kept x n y other.1))
+    (ap (λ (r : Record KeptPage). held_with (beside s2) r.held) (sym (record_elsewhere kept x n y other.1))
     ∙ sym (held_is s2 (map.insert kept x n) y) ∙ ap (λ (r : Record Bytes). r.held) (records y other.1) ∙ held_is s kept y))
     (id_tells y x)
 
 -- of a page that was mapped anew nothing is known
-pub unknown_keys : (version : MappingVersion) (s : StoreState) (f : PieceTexts) (x : EntityId) (held : Option (Held Kept)) (keys : Keys) → IsTimedHeld version s f x (held_keys held keys)
+pub unknown_keys : (version : MappingVersion) (s : StoreState) (f : PieceTexts) (x : EntityId) (held : Option (Held KeptPage)) (keys : Keys) → IsTimedHeld version s f x (held_keys held keys)
 unknown_keys version s f x None keys = tt
 unknown_keys version s f x (Some held) keys = tt

@@ -9,7 +9,10 @@ use Rattle.reorder_buffer.specs.Buffered.{first_due, after_dropping}
 use Rattle.replay_model.specs.{Records.Bytes, Records.record_of, Play.apply, ReplayState.ReplayState}
 pub use Rattle.fetched_pages.specs.Reply.{IsReply}
 use Rattle.fetched_pages.specs.Reply.{ShowsReply}
-use Rattle.world.specs.{declared.applied.Applied.Applied, declared.applied.Outcome.Outcome}
+use Rattle.term_pool.specs.declared.fault.PoolFault.{PoolFault}
+use Rattle.term_pool.specs.declared.fault.PoolFault.TheVariants.{Full as StoreFull, OutOfMemory as StoreOutOfMemory}
+use Rattle.world.specs.{declared.applied.AppliedEvent.AppliedEvent, declared.applied.Outcome.Outcome, declared.applied.WorldFault.WorldFault}
+use Rattle.world.specs.declared.applied.WorldFault.TheVariants.{Full, OutOfMemory}
 use Rattle.world.specs.declared.applied.Outcome.TheVariants.{Same, Stored, Dropped, Sided}
 
 -- what a fetch's reply leads to
@@ -34,7 +37,7 @@ abbrev pub outcome_after : Record Bytes → Event → Result Bytes Cause → Out
 outcome_after r e reply = outcome_of (state_after r.state e) (held_revision r.held) reply
 
 -- the least due event was applied, with this reply to its fetch if it made one
-pub record Applies (known : Option Contents) (folder : List ℕ) (old new : ReplayState) (applied : Applied) : Type 0 where
+pub record Applies (known : Option Contents) (folder : List ℕ) (old new : ReplayState) (applied : AppliedEvent) : Type 0 where
   pub due : first_due old.buffer ≡ Some applied.event
   pub reply : Result Bytes Cause
   pub is_reply : IsReply known folder applied.event.entity (state_after (record_of old.played.records applied.event.entity).state applied.event).rev reply
@@ -54,3 +57,8 @@ calls_after Same calls = calls
 calls_after Stored calls = counted calls
 calls_after Dropped calls = calls
 calls_after (Sided cause) calls = counted calls
+
+-- what a fault of the store is to a world
+abbrev pub fault_of_store : PoolFault → WorldFault
+fault_of_store StoreFull = Full
+fault_of_store StoreOutOfMemory = OutOfMemory

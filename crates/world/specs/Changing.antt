@@ -5,7 +5,7 @@ use Rattle.rdf_term.specs.{declared.triple.Triple.Triple, Order.triple_cmp}
 use Rattle.entity_model.specs.declared.id.EntityId.{EntityId}
 use Rattle.triple_store.specs.{declared.telling.Change.Change, declared.telling.Telling.Telling}
 use Rattle.triple_store.specs.{declared.telling.Telling.TheVariants.Change as TheChange, Telling.AreLinesOf}
-use Rattle.world.specs.declared.applied.Remapping.{Remapping}
+use Rattle.world.specs.declared.applied.RemappedStep.{RemappedStep}
 
 -- the lines of the triples that are stored after a step and weren't before it, and of those that were stored before it and aren't after it
 pub record IsChangeOf (before after : List Triple) (change : Change) : Type 0 where
@@ -19,6 +19,6 @@ Tells telling before after None = telling ≡ TheChange → after ≡ before
 Tells telling before after (Some change) = (telling ≡ TheChange) × IsChangeOf before after change
 
 -- the entity whose page was remapped, if one was
-abbrev pub entity_of : Option Remapping → Option EntityId
+abbrev pub entity_of : Option RemappedStep → Option EntityId
 entity_of None = None
 entity_of (Some remapping) = Some remapping.entity

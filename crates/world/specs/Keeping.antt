@@ -8,14 +8,14 @@ use Rattle.text_region.specs.declared.piece.Piece.{Piece}
 use Rattle.slot_keys.specs.{declared.key.Key.Key, declared.keys.Keys.Keys}
 use Rattle.triple_store.specs.{StoreState.StoreState, StoreState.beside, Stored.Changes}
 use Rattle.replay_model.specs.Records.{Bytes, Records}
-use Rattle.world.specs.declared.kept.Kept.{Kept}
+use Rattle.world.specs.declared.kept.KeptPage.{KeptPage}
 
 -- the records of the entities, each with what is kept of the page that its entity holds
 abbrev pub KeptRecords : Type 0
-KeptRecords = map.FinMap entity_cmp (Record Kept)
+KeptRecords = map.FinMap entity_cmp (Record KeptPage)
 
 -- the record of an entity, blank where there is none
-abbrev pub kept_of : KeptRecords → EntityId → Record Kept
+abbrev pub kept_of : KeptRecords → EntityId → Record KeptPage
 kept_of kept x = unwrap_or (map.get kept x) blank
 
 -- the text of each piece, none where it isn't live
@@ -23,11 +23,11 @@ abbrev pub PieceTexts : Type 0
 PieceTexts = Piece → Option Bytes
 
 -- what is held, with the text of its piece
-abbrev pub held_with : PieceTexts → Option (Held Kept) → Option (Held Bytes)
+abbrev pub held_with : PieceTexts → Option (Held KeptPage) → Option (Held Bytes)
 held_with text None = None
 held_with text (Some h) = Some (record { revision = h.revision; content = unwrap_or (text h.content.piece) [] })
 
-abbrev pub record_with : PieceTexts → Record Kept → Record Bytes
+abbrev pub record_with : PieceTexts → Record KeptPage → Record Bytes
 record_with text r = record { state = r.state; held = held_with text r.held; reconciled = r.reconciled }
 
 -- the map with another value at each of its keys
@@ -42,21 +42,21 @@ abbrev pub seen : StoreState → KeptRecords → Records
 seen store kept = records_with (beside store) kept
 
 -- the piece of what is held
-abbrev pub piece_held : Option (Held Kept) → Option Piece
+abbrev pub piece_held : Option (Held KeptPage) → Option Piece
 piece_held None = None
 piece_held (Some h) = Some h.content.piece
 
 -- the keys of the triples of what is held
-abbrev pub keys_held : Option (Held Kept) → List Key
+abbrev pub keys_held : Option (Held KeptPage) → List Key
 keys_held None = []
 keys_held (Some h) = h.content.keys.rising.items
 
 -- what is held, with other keys, of whose triples it isn't known how often they come
-abbrev pub held_keys : Option (Held Kept) → Keys → Option (Held Kept)
+abbrev pub held_keys : Option (Held KeptPage) → Keys → Option (Held KeptPage)
 held_keys None keys = None
 held_keys (Some h) keys = Some (record { revision = h.revision; content = record { piece = h.content.piece; keys = keys; times = None } })
 
-abbrev pub with_keys : Record Kept → Keys → Record Kept
+abbrev pub with_keys : Record KeptPage → Keys → Record KeptPage
 with_keys r keys = record { state = r.state; held = held_keys r.held keys; reconciled = r.reconciled }
 
 -- the piece of what an entity holds

@@ -1,13 +1,13 @@
--- When an application may be refused memory.
-use Rattle.std.specs.Prelude.{◌≡◌, true, false, Some, ◌⊎◌}
+-- When an application, or a record that is put back, may be refused memory.
+use Rattle.std.specs.Prelude.{◌≡◌, true, false, Option, Some, is_some, ◌⊎◌}
 use Rattle.std.specs.FinMap as map
-use Rattle.entity_model.specs.declared.event.Event.{Event}
-use Rattle.entity_state.specs.{declared.state.Mode.Mode, Standing.standing_after, Standing.standing_of, Standing.standing_wants}
+use Rattle.entity_model.specs.{declared.id.EntityId.EntityId, declared.event.Event.Event}
+use Rattle.entity_state.specs.{declared.record.Held.Held, declared.record.Record.Record, declared.state.Mode.Mode, Standing.standing_after, Standing.standing_of, Standing.standing_wants}
 use Rattle.entity_state.specs.State.{is_deleted, state_after}
 use Rattle.reorder_buffer.specs.Buffered.{first_due}
-use Rattle.replay_model.specs.Records.{Records, record_of}
+use Rattle.replay_model.specs.{Play.Played, Records.Bytes, Records.Records, Records.record_of}
 use Rattle.triple_store.specs.{declared.telling.Telling.Telling, declared.telling.Telling.TheVariants.Change as TheChange}
-use Rattle.world.specs.WorldState.{WorldState}
+use Rattle.world.specs.{Restoring.is_accounted_for, WorldState.WorldState}
 
 -- the triples of a page that is dropped are told
 pub record TellsDropped (telling : Telling) (mode : Mode) : Type 0 where
@@ -25,3 +25,12 @@ pub record MayBeRefused (telling : Telling) (old : WorldState) : Type 0 where
   pub event : Event
   pub due : first_due old.replay.buffer ≡ Some event
   pub takes : TakesMemory telling old.replay.played.records event
+
+-- a record of x holds a page, or is the first of x
+abbrev pub HoldsOrIsFirst : Records → EntityId → Option (Held Bytes) → Type 0
+HoldsOrIsFirst records x held = (is_some held ≡ true) ⊎ (map.contains_key records x ≡ false)
+
+-- putting back a record of x takes memory only where the side output tells of what isn't held, and the record holds a page or is the first of x
+pub record MayRefuseRecord (old : Played) (x : EntityId) (r : Record Bytes) : Type 0 where
+  pub accounted : is_accounted_for old.side x r ≡ true
+  pub takes : HoldsOrIsFirst old.records x r.held

@@ -8,7 +8,7 @@ use Rattle.entity_state.specs.declared.record.Held.{Held}
 use Rattle.replay_model.specs.{Records.Bytes, Versions.version_at}
 use Rattle.slot_keys.specs.declared.key.Key.{Key}
 use Rattle.triple_store.specs.{Updates.AreTimesIfKnown, StoreState.StoreState, StoreState.beside}
-use Rattle.world.specs.{declared.kept.Kept.Kept, declared.kept.PageTimes.PageTimes}
+use Rattle.world.specs.{declared.kept.KeptPage.KeptPage, declared.kept.PageTimes.PageTimes}
 use Rattle.world.specs.Keeping.{KeptRecords, PieceTexts, kept_of}
 use Rattle.fetched_pages.specs.Listed.{IsListed}
 
@@ -19,7 +19,7 @@ pub record IsTimed (version : MappingVersion) (store : StoreState) (x : EntityId
   pub times_are : AreTimesIfKnown store keys known.times.items triples
 
 -- so it is of what is held, with the text of its piece, if anything is known of it
-abbrev pub IsTimedHeld : MappingVersion → StoreState → PieceTexts → EntityId → Option (Held Kept) → Type 0
+abbrev pub IsTimedHeld : MappingVersion → StoreState → PieceTexts → EntityId → Option (Held KeptPage) → Type 0
 IsTimedHeld version store text x None = ⊤
 IsTimedHeld version store text x (Some h) = IfSome h.content.times (IsTimed version store x h.revision (unwrap_or (text h.content.piece) []) h.content.keys.rising.items)
 
@@ -32,11 +32,11 @@ abbrev pub times_known : Option PageTimes → List ℕ
 times_known None = []
 times_known (Some known) = known.times.items
 
-abbrev pub times_held : Option (Held Kept) → List ℕ
+abbrev pub times_held : Option (Held KeptPage) → List ℕ
 times_held None = []
 times_held (Some h) = times_known h.content.times
 
 -- the counts that are known of what is held
-abbrev pub counts_held : Option (Held Kept) → Option Counts
+abbrev pub counts_held : Option (Held KeptPage) → Option Counts
 counts_held None = None
 counts_held (Some h) = option_map (λ (known : PageTimes). known.counts) h.content.times

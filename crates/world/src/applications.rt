@@ -13,26 +13,26 @@ ghost use Rattle.world.specs.declared.applied.WorldFault.TheVariants.{Full, Noth
 ghost use Rattle.triple_store.specs.declared.telling.Telling.TheVariants.{Nothing as NoTelling};
 ghost use Rattle.entity_state.specs.{Standing.standing_after, Standing.standing_of, Standing.standing_wants, State.state_after};
 
-use crate::applied::{Application, Applied, Effect, Handling, WorldFault};
+use crate::applied::{AppliedEvent, AppliedStep, Handling, WorldFault};
 use crate::world::World;
 use entity_model::Event;
 use fetched_pages::{Beside, Reply, Wanted, fetch};
 use graph_routes::Routes;
 use rdf_term::OutOfMemory;
 use revisions::Revisions;
-use triple_store::{StoreFault, Telling};
+use triple_store::Telling;
 
 impl World {
     /// Applies the least due event: its entity's state is set, and if the new state wants a revision, it is fetched once, and mapped by the
-    /// version in force. After a fault nothing has changed, but that a fetch may have been made. Over a source that tells its contents, the
-    /// fault is `Full` exactly if the triples of the page that is fetched, with those of all that is held, have more distinct terms than
-    /// the limit, unless memory is refused; over a source that doesn't tell, it says only that some document of the entity has no room.
-    /// What is held has room, before and after. Where nothing is fetched for an entity that has a record, memory isn't refused.
+    /// version in force. After a fault nothing has changed, except that a fetch may have been made. If contracts see the contents of the
+    /// source, the fault is `Full` exactly if the triples of the fetched page and of all held pages have together more distinct terms than
+    /// the limit, unless memory is refused. Otherwise `Full` says only that some document of the entity has no room. What is held is within
+    /// the limit, before and after. If nothing is fetched for an entity that has a record, memory isn't refused.
     pub fn apply_next<R: Revisions>(
         &mut self,
         revisions: &mut R,
         folder: &str,
-    ) -> Result<Applied, WorldFault>
+    ) -> Result<AppliedEvent, WorldFault>
         ensures applied { IfOk result (λ applied. Applies (R.contents revisions.old) folder.now self.old.replay self.new.replay applied) }
         ensures limit { self.new.limit ≡ self.old.limit }
         ensures mapping { self.new.mapping ≡ self.old.mapping }
@@ -64,15 +64,15 @@ impl World {
         }
     }
 
-    /// Does what `apply_next` does, and if asked, tells which triples it added to the stored ones and which it removed: their lines, which
-    /// take memory. If there are routes, it gives back the page that it stored: its triples by their texts, and its graph.
+    /// Does what `apply_next` does. If asked, it also gives the lines of the triples that it added to the stored ones and of those that it
+    /// removed, which takes memory. If there are routes, it gives back the page that it stored: its triples by their texts, and its graph.
     pub fn apply_next_with<R: Revisions>(
         &mut self,
         revisions: &mut R,
         folder: &str,
         telling: Telling,
         routes: Option<&Routes>,
-    ) -> Result<Application, WorldFault>
+    ) -> Result<AppliedStep, WorldFault>
         ensures applied { IfOk result (λ done. Applies (R.contents revisions.old) folder.now self.old.replay self.new.replay done.applied) }
         ensures limit { self.new.limit ≡ self.old.limit }
         ensures mapping { self.new.mapping ≡ self.old.mapping }
@@ -109,25 +109,17 @@ impl World {
             version: self.mapping,
             telling,
         };
-        match self.holdings.apply(&mut self.side, event, reply, how) {
-            Ok(
-                Effect {
-                    outcome,
-                    change,
-                    routed,
-                },
-            ) => {
-                self.holdings.facts();
-                self.buffer.drop_least();
-                Ok(Application {
-                    applied: Applied { event, outcome },
-                    change,
-                    routed,
-                })
-            }
-            Err(StoreFault::Full) => Err(WorldFault::Full),
-            Err(StoreFault::OutOfMemory) => Err(WorldFault::OutOfMemory),
-        }
+        let effect = self.holdings.apply(&mut self.side, event, reply, how)?;
+        self.holdings.facts();
+        self.buffer.drop_least();
+        Ok(AppliedStep {
+            applied: AppliedEvent {
+                event,
+                outcome: effect.outcome,
+            },
+            change: effect.change,
+            routed: effect.routed,
+        })
     }
 
     // The reply to the fetch that an event wants, if it wants one.

@@ -1,13 +1,13 @@
 // What the application of an event led to, or the remapping of a page.
 
 ghost use Rattle.std.specs.Prelude.{◌≡◌};
-ghost use Rattle.world.specs.declared.applied.WorldFault.TheVariants.{OutOfMemory as WorldOutOfMemory};
+ghost use Rattle.world.specs.{Applying.fault_of_store, declared.applied.WorldFault.TheVariants.OutOfMemory as WorldOutOfMemory};
 
 use entity_model::{EntityId, Event, MappingVersion};
 use rdf_term::OutOfMemory;
 use side_output::Cause;
 use thiserror::Error;
-use triple_store::{Change, Telling};
+use triple_store::{Change, StoreFault, Telling};
 use triple_texts::TripleTexts;
 
 /// What the application of an event did to what its entity holds.
@@ -32,7 +32,7 @@ pub struct Handling {
 
 /// An event that was applied.
 #[derive(Clone, Copy, PartialEq, Eq)]
-pub struct Applied {
+pub struct AppliedEvent {
     pub event: Event,
     pub outcome: Outcome,
 }
@@ -48,24 +48,24 @@ pub struct RoutedPage {
 /// What the application of an event did to what its entity holds; what it changed of the stored triples, where that is told; and the page
 /// that it stored, where it is routed.
 #[derive(Drop)]
-pub struct Effect {
+pub struct HeldChange {
     pub outcome: Outcome,
     pub change: Option<Change>,
     pub routed: Option<RoutedPage>,
 }
 
-/// An event that was applied; the change of the stored triples, if it is told (an application that leaves the store alone tells none); and
-/// the page that was stored, if there are routes.
+/// An event that was applied; the change of the stored triples, if it was asked for and the store changed; and the page that was stored, if
+/// there are routes.
 #[derive(Drop)]
-pub struct Application {
-    pub applied: Applied,
+pub struct AppliedStep {
+    pub applied: AppliedEvent,
     pub change: Option<Change>,
     pub routed: Option<RoutedPage>,
 }
 
 /// How remapping a page changed the stored triples, if it is told, and the triples of the page then, by their texts.
 #[derive(Drop)]
-pub struct Remapped {
+pub struct RemappedPage {
     pub change: Option<Change>,
     pub triples: TripleTexts,
 }
@@ -73,7 +73,7 @@ pub struct Remapped {
 /// An entity whose held page was remapped; the change of the stored triples, if it is told; and the triples of the page then, by their
 /// texts, of which one may stand there more than once.
 #[derive(Drop)]
-pub struct Remapping {
+pub struct RemappedStep {
     pub entity: EntityId,
     pub change: Option<Change>,
     pub triples: TripleTexts,
@@ -85,11 +85,11 @@ pub enum WorldFault {
     /// No event is due.
     #[error("no event is due")]
     Nothing,
-    /// The triples of all that is held and of the page that was fetched, or remapped, have more terms than there is room for; the event
-    /// stays due, and the page mapped as it was.
+    /// The triples of all held pages and of the page that was fetched, or remapped, have together more distinct terms than the limit. The
+    /// event stays due, and the page stays mapped as it was.
     #[error("the store is full")]
     Full,
-    /// A request for memory was refused; the event stays due, and the page mapped as it was.
+    /// A request for memory was refused. The event stays due, and the page stays mapped as it was.
     #[error("out of memory")]
     OutOfMemory,
 }
@@ -99,5 +99,16 @@ impl From<OutOfMemory> for WorldFault {
 
     fn from(_refused: OutOfMemory) -> WorldFault {
         WorldFault::OutOfMemory
+    }
+}
+
+impl From<StoreFault> for WorldFault {
+    ghost from_gives = { λ fault e. e ≡ fault_of_store fault };
+
+    fn from(fault: StoreFault) -> WorldFault {
+        match fault {
+            StoreFault::Full => WorldFault::Full,
+            StoreFault::OutOfMemory => WorldFault::OutOfMemory,
+        }
     }
 }

@@ -9,7 +9,7 @@ ghost use Rattle.world.specs.{Applying.outcome_after, Changing.Tells, Refused.Ta
 ghost use Rattle.world.specs.{Roomed.HasRoom, Roomed.Overfills, Roomed.room_with, Roomed.triples_of_reply, Routed.routed_by, Routed.routed_page};
 ghost use Rattle.world.specs.WorldState.{AreHolders, played_of, by_two_after, stored_in};
 
-use crate::applied::{Effect, Handling, Outcome, RoutedPage};
+use crate::applied::{Handling, HeldChange, Outcome, RoutedPage};
 use crate::holdings::Holdings;
 use entity_model::Event;
 use fetched_pages::{FetchedPage, Page, Reply, Wanted};
@@ -26,7 +26,7 @@ impl Holdings {
         event: Event,
         reply: Option<Reply>,
         how: Handling,
-    ) -> Result<Effect, StoreFault>
+    ) -> Result<HeldChange, StoreFault>
         requires wanted { is_some reply ≡ standing_wants (standing_after (standing_of (record_of self.old.records event.entity)) event) }
         requires meant { AreMeant self.old.records self.old.by_two how.version event.entity (standing_after (standing_of (record_of self.old.records event.entity)) event).state.rev reply }
         requires room { HasRoom (meaning_by meaning self.old.by_two) self.old.limit self.old.records }
@@ -55,7 +55,7 @@ impl Holdings {
                     version: how.version,
                 };
                 match self.hold(wanted, after, &page, how.telling) {
-                    Ok(change) => Ok(Effect {
+                    Ok(change) => Ok(HeldChange {
                         outcome: Outcome::Stored,
                         change,
                         routed: routed(page),
@@ -73,7 +73,7 @@ impl Holdings {
                 match self.keep(event.entity, after) {
                     Ok(()) => {
                         let _ = side.push(Entry::Revision(event, after.state.rev, cause));
-                        Ok(Effect {
+                        Ok(HeldChange {
                             outcome: Outcome::Sided(cause),
                             change: None,
                             routed: None,

@@ -10,7 +10,7 @@ ghost use Rattle.world.specs.{Roomed.HasRoom, Roomed.room_with, Timed.counts_hel
 ghost use Rattle.triple_store.specs.StoreState.{beside};
 
 use crate::holders::Holders;
-use crate::kept::{Kept, held_of};
+use crate::kept::{KeptPage, held_of};
 use crate::remapping::held_in;
 use entity_model::{EntityId, MappingVersion};
 use entity_state::{Record, Standing, Table};
@@ -29,7 +29,7 @@ use triple_store::Store;
 pub struct Holdings {
     pub(crate) alloc: Global,
     pub(crate) store: Store,
-    pub(crate) table: Table<Kept>,
+    pub(crate) table: Table<KeptPage>,
     pub(crate) holders: Holders,
 }
 
@@ -130,7 +130,7 @@ impl Holdings {
 }
 
 // The page that an entity holds, with the counts that are known of it, where it is known how many times each of its triples comes.
-fn known_in<'a>(store: &'a Store, table: &Table<Kept>, id: EntityId) -> Option<KnownPage<'a>>
+fn known_in<'a>(store: &'a Store, table: &Table<KeptPage>, id: EntityId) -> Option<KnownPage<'a>>
     requires { IfSome (piece_at table.now.records id) (λ piece. IsSome (beside store.now piece)) }
     ensures counts { IfSome result (λ page. Some page.counts ≡ counts_held (kept_of table.now.records id).held) }
     ensures held { IfSome result (λ page. held_with (beside store.now) (kept_of table.now.records id).held ≡ Some (record { revision = page.rev; content = page.bytes.now })) }
@@ -152,7 +152,7 @@ fn known_in<'a>(store: &'a Store, table: &Table<Kept>, id: EntityId) -> Option<K
 }
 
 // What stands of an entity's record.
-fn standing_in(table: &Table<Kept>, id: EntityId) -> Standing
+fn standing_in(table: &Table<KeptPage>, id: EntityId) -> Standing
     ensures { result ≡ standing_of (kept_of table.now.records id) }
 {
     match table.get(id) {
@@ -162,7 +162,7 @@ fn standing_in(table: &Table<Kept>, id: EntityId) -> Standing
             reconciled: record.reconciled,
         },
         None => {
-            let blank: Record<Kept> = Record::blank();
+            let blank: Record<KeptPage> = Record::blank();
             Standing {
                 state: blank.state,
                 held: None,
@@ -173,14 +173,14 @@ fn standing_in(table: &Table<Kept>, id: EntityId) -> Standing
 }
 
 // The number of the revision that a record holds.
-fn held_revision(entity: &Record<Kept>) -> Option<u64>
+fn held_revision(entity: &Record<KeptPage>) -> Option<u64>
     ensures { result ≡ (standing_of entity.now).held }
 {
     entity.held.as_ref().map(|held| held.revision)
 }
 
 // Makes room for a record, so that the next one of the entity that is put takes no memory; none is taken where it has a record.
-pub(crate) fn make_room(table: &mut Table<Kept>, id: EntityId) -> Result<(), OutOfMemory>
+pub(crate) fn make_room(table: &mut Table<KeptPage>, id: EntityId) -> Result<(), OutOfMemory>
     ensures records { table.new.records ≡ table.old.records }
     ensures room { OnOk result (IsTrue (has_room table.new id)) }
     ensures refused { OnErr result (map.contains_key table.old.records id ≡ false) }

@@ -11,7 +11,7 @@ use triple_store::{KeySlices, Keys};
 
 /// Where the bytes of a document lie in the region, the keys of its triples in the store, and what is known of how often these come.
 #[derive(Drop)]
-pub struct Kept {
+pub struct KeptPage {
     pub piece: Piece,
     pub keys: Keys,
     pub times: Option<PageTimes>,
@@ -26,7 +26,7 @@ pub struct PageTimes {
 }
 
 /// What an entity holds.
-pub fn held_of(table: &Table<Kept>, id: EntityId) -> Option<&Held<Kept>>
+pub fn held_of(table: &Table<KeptPage>, id: EntityId) -> Option<&Held<KeptPage>>
     ensures { option_copied result ≡ (kept_of table.now.records id).held }
 {
     match table.get(id) {
@@ -36,7 +36,7 @@ pub fn held_of(table: &Table<Kept>, id: EntityId) -> Option<&Held<Kept>>
 }
 
 /// The keys of the triples of what an entity holds.
-pub fn keys_of(table: &Table<Kept>, id: EntityId) -> KeySlices<'_>
+pub fn keys_of(table: &Table<KeptPage>, id: EntityId) -> KeySlices<'_>
     ensures { result.rising.now ≡ keys_held (kept_of table.now.records id).held }
 {
     match held_of(table, id) {
@@ -46,7 +46,7 @@ pub fn keys_of(table: &Table<Kept>, id: EntityId) -> KeySlices<'_>
 }
 
 /// How many times the triple of each of these keys comes, or nothing where that isn't known.
-pub fn times_of(table: &Table<Kept>, id: EntityId) -> &[u16]
+pub fn times_of(table: &Table<KeptPage>, id: EntityId) -> &[u16]
     ensures { result.now ≡ times_held (kept_of table.now.records id).held }
 {
     let Some(held) = held_of(table, id) else {

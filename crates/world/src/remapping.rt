@@ -12,10 +12,10 @@ ghost use Rattle.fetched_pages.specs.Meaning.{meaning};
 ghost use Rattle.world.specs.{Changing.Tells, Keeping.held_with, Keeping.kept_of, Keeping.piece_at, Keeping.with_keys};
 ghost use Rattle.world.specs.{Roomed.room_with, Routed.AreTriplesOf, WorldState.stored_in};
 
-use crate::applied::Remapped;
+use crate::applied::RemappedPage;
 use crate::holders::other;
 use crate::holdings::Holdings;
-use crate::kept::{Kept, held_of, keys_of};
+use crate::kept::{KeptPage, held_of, keys_of};
 use entity_json::DocumentFault;
 use entity_model::{EntityId, MappingVersion};
 use entity_state::{Held, Record, Table};
@@ -34,7 +34,7 @@ impl Holdings {
         id: EntityId,
         version: MappingVersion,
         telling: Telling,
-    ) -> Result<Remapped, StoreFault>
+    ) -> Result<RemappedPage, StoreFault>
         requires { is_holder self.old.records id ≡ true }
         ensures records { self.new.records ≡ self.old.records }
         ensures by_two { OnOk result (self.new.by_two ≡ with_version version id self.old.by_two) }
@@ -72,7 +72,7 @@ impl Holdings {
                 drop(times);
                 set_keys(&mut self.table, id, keys);
                 self.holders.remove(id, other(version));
-                Ok(Remapped { change, triples })
+                Ok(RemappedPage { change, triples })
             }
             Err(refused) => {
                 drop(triples);
@@ -87,7 +87,7 @@ impl Holdings {
 fn held_texts(
     alloc: Global,
     store: &Store,
-    table: &Table<Kept>,
+    table: &Table<KeptPage>,
     id: EntityId,
     version: MappingVersion,
 ) -> Result<TripleTexts, OutOfMemory>
@@ -108,7 +108,11 @@ fn held_texts(
 }
 
 /// The revision that an entity holds, and the text of its piece.
-pub fn held_in<'a>(store: &'a Store, table: &Table<Kept>, id: EntityId) -> Option<(u64, &'a [u8])>
+pub fn held_in<'a>(
+    store: &'a Store,
+    table: &Table<KeptPage>,
+    id: EntityId,
+) -> Option<(u64, &'a [u8])>
     requires { IfSome (piece_at table.now.records id) (λ piece. IsSome (beside store.now piece)) }
     ensures { MatchOption result (held_with (beside store.now) (kept_of table.now.records id).held ≡ None)
         (λ h. held_with (beside store.now) (kept_of table.now.records id).held ≡ Some (record { revision = h.0; content = h.1.now })) }
@@ -120,7 +124,7 @@ pub fn held_in<'a>(store: &'a Store, table: &Table<Kept>, id: EntityId) -> Optio
 }
 
 // Sets the keys of the triples of what an entity holds. How often these come isn't known then.
-fn set_keys(table: &mut Table<Kept>, id: EntityId, keys: Keys)
+fn set_keys(table: &mut Table<KeptPage>, id: EntityId, keys: Keys)
     requires { is_some (kept_of table.old.records id).held ≡ true }
     ensures { table.new.records ≡ map.insert table.old.records id (with_keys (kept_of table.old.records id) keys) }
 {
@@ -135,7 +139,7 @@ fn set_keys(table: &mut Table<Kept>, id: EntityId, keys: Keys)
     let Some(held) = held else {
         return;
     };
-    let content = Kept {
+    let content = KeptPage {
         piece: held.content.piece,
         keys,
         times: None,

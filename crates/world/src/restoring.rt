@@ -5,13 +5,13 @@ ghost use Rattle.std.specs.FinMap as map;
 ghost use Rattle.std.specs.List.{list_any};
 ghost use Rattle.entity_json.specs.Document.{unfit_of};
 ghost use Rattle.entity_state.specs.Record.{held_revision, is_held};
-ghost use Rattle.reorder_buffer.specs.Buffered.{after_taking};
+ghost use Rattle.reorder_buffer.specs.Buffered.{IsAdded, after_taking};
 ghost use Rattle.replay_model.specs.{Entries.is_of_revision, Replies.HoldsDocument, Union.triples_held};
 ghost use Rattle.replay_model.specs.Versions.{all_by, meaning_by, with_version};
 ghost use Rattle.fetched_pages.specs.Meaning.{meaning};
 ghost use Rattle.world.specs.Restoring.{MayStand, by_two_with, is_accounted_for, restored};
-ghost use Rattle.world.specs.{Roomed.HasRoom, Roomed.room_with, WorldState.AreHolders};
-ghost use Rattle.world.specs.declared.restoring.RestoreFault.TheVariants.{Full, Unsound};
+ghost use Rattle.world.specs.{Refused.HoldsOrIsFirst, Refused.MayRefuseRecord, Roomed.HasRoom, Roomed.room_with, WorldState.AreHolders};
+ghost use Rattle.world.specs.declared.restoring.RestoreFault.TheVariants.{Full, OutOfMemory as RestoreOutOfMemory, Unsound};
 
 use crate::holdings::Holdings;
 use crate::world::World;
@@ -26,11 +26,11 @@ use triple_store::{StoreFault, Telling};
 /// Why a record isn't put back.
 #[derive(Clone, Copy, Debug, PartialEq, Eq, Error)]
 pub enum RestoreFault {
-    /// No replay leaves such a record: its page is no document of its entity, a page is held although the state isn't that of a page
-    /// that is there, or the revision that the state wants isn't held and no entry of the side output tells of it.
+    /// No replay leaves such a record: its page is no document of its entity, a page is held although the state isn't kept, or the revision
+    /// that the state wants isn't held and no entry of the side output names it.
     #[error("no replay leaves such a record")]
     Unsound,
-    /// The triples of all that is held and of the page of the record have more terms than there is room for.
+    /// The triples of all held pages and of the page of the record have together more distinct terms than the limit.
     #[error("the store is full")]
     Full,
     /// A request for memory was refused.
@@ -39,11 +39,13 @@ pub enum RestoreFault {
 }
 
 impl World {
-    /// Remembers an event as `take` does, and names it nowhere. After `OutOfMemory` nothing has changed.
+    /// Remembers an event as `take` does, but makes no entry of the side output. Only an event that is remembered from now on takes memory.
+    /// After `OutOfMemory` nothing has changed.
     pub fn remember(&mut self, event: Event) -> Result<(), OutOfMemory>
         requires { self.old.replay.buffer.closed ≡ false }
         ensures ok { OnOk result (self.new ≡ record self.old { replay = record self.old.replay { buffer = after_taking self.old.replay.buffer event } }) }
         ensures err { OnErr result (self.new ≡ self.old) }
+        ensures refused { OnErr result (IsAdded self.old.replay.buffer event) }
     {
         self.buffer.take(event)?;
         Ok(())
@@ -63,14 +65,16 @@ impl World {
 
     /// Puts back the record of an entity; the page that it holds is mapped by the version in force, and nothing is fetched. If every page
     /// was mapped by this version before, every page is after. After a fault nothing has changed. The fault is `Unsound` for a record that
-    /// can't stand beside the side output, and `Full` exactly if the triples of the page, with those of all that is held, have more
-    /// distinct terms than the limit.
+    /// no replay leaves with this side output. Otherwise it is `Full` exactly if the triples of the page and of all held pages have
+    /// together more distinct terms than the limit, unless memory is refused. Only a page, or the first record of an entity, takes memory.
     pub fn restore(&mut self, id: EntityId, entity: Record<Text>) -> Result<(), RestoreFault>
         ensures ok { OnOk result (self.new ≡ restored self.old id entity) }
         ensures sound { OnOk result (MayStand self.old.replay.played.side id entity) }
         ensures unsound { IsErrOf result Unsound → ¬ (MayStand self.old.replay.played.side id entity) }
         ensures full { IsErrOf result Full → self.old.limit
             < room_with (meaning_by meaning self.old.by_two) self.old.replay.played.records (triples_held (meaning self.old.mapping) id entity.held) }
+        ensures sound_if_full { IsErrOf result Full → MayStand self.old.replay.played.side id entity }
+        ensures refused { IsErrOf result RestoreOutOfMemory → MayRefuseRecord self.old.replay.played id entity }
         ensures within { OnOk result (room_with (meaning_by meaning self.old.by_two) self.old.replay.played.records
             (triples_held (meaning self.old.mapping) id entity.held) ≤ self.old.limit) }
         ensures by_one { self.old.by_two ≡ all_by self.old.mapping self.old.replay.played.records →
@@ -103,7 +107,9 @@ impl Holdings {
         ensures ok { OnOk result (self.new.records ≡ map.insert self.old.records id entity) }
         ensures by_two { OnOk result (self.new.by_two ≡ by_two_with version id entity.held self.old.by_two) }
         ensures document { OnOk result (HoldsDocument unfit_of id entity.held) }
+        ensures document_if_full { IsErrOf result Full → HoldsDocument unfit_of id entity.held }
         ensures unsound { IsErrOf result Unsound → ¬ (HoldsDocument unfit_of id entity.held) }
+        ensures refused { IsErrOf result RestoreOutOfMemory → HoldsOrIsFirst self.old.records id entity.held }
         ensures limit { self.new.limit ≡ self.old.limit }
         ensures full { IsErrOf result Full → self.old.limit < room_with (meaning_by meaning self.old.by_two) self.old.records (triples_held (meaning version) id entity.held) }
         ensures within { OnOk result (room_with (meaning_by meaning self.old.by_two) self.old.records (triples_held (meaning version) id entity.held) ≤ self.old.limit) }
@@ -142,6 +148,7 @@ impl Holdings {
         ensures ok { OnOk result (self.new.records ≡ map.insert self.old.records id (record { state = after.state; held = Some held; reconciled = after.reconciled })) }
         ensures by_two { OnOk result (self.new.by_two ≡ with_version version id self.old.by_two) }
         ensures document { OnOk result (unfit_of id held.content ≡ None) }
+        ensures document_if_full { IsErrOf result Full → unfit_of id held.content ≡ None }
         ensures unsound { IsErrOf result Unsound → unfit_of id held.content ≢ None }
         ensures limit { self.new.limit ≡ self.old.limit }
         ensures full { IsErrOf result Full → self.old.limit < room_with (meaning_by meaning self.old.by_two) self.old.records (meaning version id held.revision held.content) }

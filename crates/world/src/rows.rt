@@ -24,15 +24,15 @@ impl World {
         self.holdings.store().all()
     }
 
-    /// The stored triples that agree with the pattern, in order, in memory of their own.
+    /// The stored triples that match the pattern, in order, in memory of their own.
     pub fn matches(&self, pattern: &Pattern) -> Result<TripleSet, OutOfMemory>
         ensures { IfOk result (λ set. set ≡ rows (union triple_cmp (meaning_by meaning self.now.by_two) self.now.replay.played.records) pattern.now) }
     {
         self.holdings.store().matches(pattern)
     }
 
-    /// The triples of what an entity holds, by the version that its page is mapped by; none where it holds nothing. Their terms are fit
-    /// and short.
+    /// The triples of what an entity holds, by the version that its page is mapped by; none if it holds nothing. Their terms are fit and
+    /// short.
     #[tactic(auto, using(crate::proofs::Fit::held_fit))]
     pub fn set_of(&self, id: EntityId) -> Result<TripleSet, OutOfMemory>
         ensures value { IfOk result (λ set. set ≡ triples_held (meaning_by meaning self.now.by_two) id (record_of self.now.replay.played.records id).held) }
@@ -55,14 +55,14 @@ impl World {
         self.holdings.store().rows()
     }
 
-    /// Those of them that agree with the pattern, in order, without a copy of their texts.
+    /// The stored triples that match the pattern, in order, without a copy of their texts.
     pub fn matching(&self, pattern: &Pattern) -> Result<Rows<'_>, OutOfMemory>
         ensures { IfOk result (λ found. found ≡ rows (union triple_cmp (meaning_by meaning self.now.by_two) self.now.replay.played.records) pattern.now) }
     {
         self.holdings.store().matching(pattern, &mut Uncounted)
     }
 
-    /// How many of them agree with the pattern, which takes no memory: no triple is looked at but to find the ends of their range.
+    /// How many stored triples match the pattern, which takes no memory: the call looks at triples only to find the ends of their range.
     pub fn matching_len(&self, pattern: &Pattern) -> usize
         ensures { result ≡ length (rows (union triple_cmp (meaning_by meaning self.now.by_two) self.now.replay.played.records) pattern.now) }
     {

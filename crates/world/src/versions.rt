@@ -7,12 +7,12 @@ ghost use Rattle.world.specs.{Changing.Tells, Changing.entity_of, Roomed.HasRoom
 ghost use Rattle.world.specs.WorldState.{AreHolders, first_of, held_version, next_stale, remapped, stale, stale_by, stored_of, triples_anew, version_in};
 ghost use Rattle.world.specs.declared.applied.WorldFault.TheVariants.{Full, Nothing as NothingDue};
 
-use crate::applied::{Remapped, Remapping, WorldFault};
+use crate::applied::{RemappedStep, WorldFault};
 use crate::holders::other;
 use crate::holdings::Holdings;
 use crate::world::World;
 use entity_model::{EntityId, MappingVersion};
-use triple_store::{StoreFault, Telling};
+use triple_store::Telling;
 
 impl World {
     /// The version of the mapping in force, by which the pages of later applications are mapped.
@@ -22,7 +22,7 @@ impl World {
         self.mapping
     }
 
-    /// Sets the version in force. What is held stays mapped as it was; whatever is named as mapped by version Two is held.
+    /// Sets the version in force. Held pages stay mapped as they were; each entity that is named as mapped by version Two holds a page.
     pub fn set_mapping(&mut self, version: MappingVersion)
         ensures set { self.new ≡ record self.old { mapping = version } }
         ensures holders { AreHolders self.new.by_two self.new.replay.played.records }
@@ -52,9 +52,9 @@ impl World {
         self.holdings.stale(self.mapping)
     }
 
-    /// Maps the held page of the least stale entity by the version in force, and says which entity that is, or none if no entity is stale;
-    /// then nothing changes and no memory is taken. Nothing is fetched. After a fault nothing has changed. The fault is `Full` exactly if
-    /// the new triples, with those of all that is held, have more distinct terms than the limit.
+    /// Maps the held page of the least stale entity by the version in force, and says which entity that is. If no entity is stale, it says
+    /// so, changes nothing and takes no memory. Nothing is fetched. After a fault nothing has changed. The fault is `Full` exactly if the
+    /// new triples and those of all held pages have together more distinct terms than the limit.
     pub fn remap_next(&mut self) -> Result<Option<EntityId>, WorldFault>
         ensures ok { OnOk result (self.new ≡ remapped self.old) }
         ensures entity { IfOk result (λ entity. entity ≡ next_stale self.old) }
@@ -76,9 +76,9 @@ impl World {
         }
     }
 
-    /// Does what `remap_next` does, and gives back the triples of the page by their texts; if asked, it tells which triples it added to the
-    /// stored ones and which it removed.
-    pub fn remap_next_with(&mut self, telling: Telling) -> Result<Option<Remapping>, WorldFault>
+    /// Does what `remap_next` does, and gives back the triples of the page by their texts. If asked, it also gives the triples that it
+    /// added to the stored ones and those that it removed.
+    pub fn remap_next_with(&mut self, telling: Telling) -> Result<Option<RemappedStep>, WorldFault>
         ensures ok { OnOk result (self.new ≡ remapped self.old) }
         ensures entity { IfOk result (λ done. entity_of done ≡ next_stale self.old) }
         ensures fewer { IfOk result (λ done. IfSome done (λ _. length (stale self.new) + 1 ≡ length (stale self.old))) }
@@ -97,17 +97,13 @@ impl World {
         let Some(entity) = self.holdings.next_stale(self.mapping) else {
             return Ok(None);
         };
-        let remapped = self.holdings.remap(entity, self.mapping, telling);
+        let remapped = self.holdings.remap(entity, self.mapping, telling)?;
         self.holdings.facts();
-        match remapped {
-            Ok(Remapped { change, triples }) => Ok(Some(Remapping {
-                entity,
-                change,
-                triples,
-            })),
-            Err(StoreFault::Full) => Err(WorldFault::Full),
-            Err(StoreFault::OutOfMemory) => Err(WorldFault::OutOfMemory),
-        }
+        Ok(Some(RemappedStep {
+            entity,
+            change: remapped.change,
+            triples: remapped.triples,
+        }))
     }
 }
 

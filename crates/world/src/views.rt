@@ -54,7 +54,7 @@ impl World {
         self.buffer.mark()
     }
 
-    /// How many microseconds behind the mark events are forgotten, if they ever are.
+    /// How many microseconds behind the mark events are forgotten, if there is a horizon.
     pub fn horizon(&self) -> Option<u64>
         ensures { result ≡ self.now.replay.buffer.horizon }
     {
@@ -68,7 +68,7 @@ impl World {
         self.holdings.entities()
     }
 
-    /// The state of an entity; Unknown with revision 0 where it has no record.
+    /// The state of an entity; Unknown with revision 0 if it has no record.
     pub fn state(&self, id: EntityId) -> State
         ensures { result ≡ (record_of self.now.replay.played.records id).state }
     {

@@ -1,8 +1,10 @@
 // The state of a replay.
 
-ghost use Rattle.std.specs.Prelude.{◌≡◌, ◌<◌, ◌+◌, ◌++◌, [], false, Some, length, IfOk, OnErr, OnOk};
+ghost use Rattle.std.specs.Prelude.{◌≡◌, ◌<◌, ◌+◌, ◌++◌, [], false, Some, length, IfOk, IsOk, OnErr, OnOk};
 ghost use Rattle.std.specs.FinMap as map;
-ghost use Rattle.reorder_buffer.specs.Buffered.{after_taking, answer_to};
+ghost use Rattle.reorder_buffer.specs.{Buffered.after_taking, Buffered.answer_to, declared.taken.Taken.TheVariants.Repeat};
+ghost use Rattle.sorted_sets.specs.Rising.{has};
+ghost use Rattle.entity_model.specs.Event.{event_cmp};
 ghost use Rattle.replay_model.specs.ReplayState.{after_end, after_event, after_mark, nothing_delivered, nothing_delivered_within, taken_entries};
 ghost use Rattle.entity_model.specs.declared.mapping.MappingVersion.TheVariants.{One};
 
@@ -18,9 +20,9 @@ use std::marker::Model;
 // The limit of a world, unless it is set otherwise.
 const LIMIT: u32 = 20_000_000;
 
-/// The events that wait, the side output, the version of the mapping in force, and what the entities hold, with the triples that all held
-/// pages mean, each with the number of its owners. Contracts see the state of a replay, which the triples follow; for how many terms there is
-/// room; and the version of the mapping in force, with the entities whose pages are mapped by version Two.
+/// The waiting events, the side output, the version of the mapping in force, and what the entities hold, with the triples that all held
+/// pages mean, each with the number of its owners. Contracts see the state of a replay, which determines the triples; the limit on terms;
+/// and the version of the mapping in force, with the entities whose pages are mapped by version Two.
 #[derive(Drop)]
 pub struct World {
     pub(crate) alloc: Global,
@@ -54,8 +56,8 @@ impl Model for World {
 }
 
 impl World {
-    /// The world before the first delivery, without a horizon and with room for 20,000,000 terms. Version One of the mapping
-    /// is in force. The hashes of its terms are keyed by `keys`.
+    /// The world before the first delivery, without a horizon and with a limit of 20,000,000 terms. Version One of the mapping is in force.
+    /// The hashes of its terms are keyed by `keys`.
     pub fn new(alloc: Global, keys: RandomState) -> Result<World, OutOfMemory>
         ensures { IfOk result (λ world. world ≡ record { replay = nothing_delivered; limit = 20000000; mapping = One; by_two = [] }) }
     {
@@ -70,8 +72,8 @@ impl World {
         })
     }
 
-    /// Sets the limit on distinct terms. No event was applied yet.
-    pub fn set_room(&mut self, terms: u32)
+    /// Sets the limit on distinct terms, before any event is applied.
+    pub fn set_limit(&mut self, terms: u32)
         requires { map.len self.old.replay.played.records ≡ 0 }
         ensures { self.new ≡ record self.old { limit = terms } }
     {
@@ -79,8 +81,8 @@ impl World {
         self.holdings.facts();
     }
 
-    /// Sets the horizon, in microseconds: events whose time is further behind the greatest watermark are forgotten, so that one that comes
-    /// again is late again. No delivery was taken yet.
+    /// Sets the horizon, in microseconds, before any delivery is taken: events whose time is further behind the greatest watermark are
+    /// forgotten, so that such an event is late when it is delivered again.
     pub fn set_horizon(&mut self, micros: u64)
         requires { self.old.replay ≡ nothing_delivered_within self.old.replay.buffer.horizon }
         ensures { self.new ≡ record self.old { replay = nothing_delivered_within (Some micros) } }
@@ -88,20 +90,21 @@ impl World {
         self.buffer.set_horizon(micros);
     }
 
-    /// Takes an event: one that is remembered changes nothing, one whose time the watermark has reached is named in
-    /// the side output, and any other waits. After `OutOfMemory` nothing has changed.
+    /// Takes an event. A remembered event changes nothing, and takes no memory; an event whose time the greatest watermark has reached gets
+    /// a late entry in the side output; any other event waits. After `OutOfMemory` nothing has changed.
     pub fn take(&mut self, event: Event) -> Result<Taken, OutOfMemory>
         requires { self.old.replay.buffer.closed ≡ false }
         ensures answer { IfOk result (λ taken. taken ≡ answer_to self.old.replay.buffer event) }
         ensures ok { OnOk result (self.new.replay ≡ after_event self.old.replay event) }
         ensures rest { self.new ≡ record self.old { replay = self.new.replay } }
         ensures err { OnErr result (self.new ≡ self.old) }
+        ensures free { answer_to self.old.replay.buffer event ≡ Repeat → IsOk result }
     {
         take_event(&mut self.buffer, &mut self.side, event)
     }
 
-    /// Takes a watermark, in microseconds since 1970-01-01T00:00:00Z: events up to its time are due from now on, and what is
-    /// further behind it than the horizon is forgotten.
+    /// Takes a watermark, in microseconds since 1970-01-01T00:00:00Z: events up to its time are due from now on, and events that are
+    /// further behind it than the horizon are forgotten.
     pub fn raise(&mut self, mark: i64)
         ensures { self.new ≡ record self.old { replay = after_mark self.old.replay mark } }
     {
@@ -135,11 +138,16 @@ fn take_event(buffer: &mut Buffer, side: &mut Side, event: Event) -> Result<Take
     ensures buffer { OnOk result (buffer.new ≡ after_taking buffer.old event) }
     ensures entries { OnOk result (side.new.entries ≡ side.old.entries ++ taken_entries (answer_to buffer.old event) event) }
     ensures err { OnErr result ((buffer.new ≡ buffer.old) × (side.new.entries ≡ side.old.entries)) }
+    ensures refused { OnErr result (has event_cmp event buffer.old.kept ≡ false) }
 {
+    if !buffer.has_reached(event.time) {
+        return buffer.take(event);
+    }
+    if buffer.remembers(&event) {
+        return Ok(Taken::Repeat);
+    }
     side.make_room()?;
     let taken = buffer.take(event)?;
-    if taken == Taken::Late {
-        let _ = side.push(Entry::Late(event));
-    }
+    let _ = side.push(Entry::Late(event));
     Ok(taken)
 }

@@ -1,7 +1,7 @@
 -- The record that was taken out is put in again.
 use Rattle.std.proofs.Common.{refl, sym, ap, ◌∙◌}
 use Rattle.entity_state.specs.Tabled.{Tabled}
-use Rattle.world.specs.declared.kept.Kept.{Kept}
+use Rattle.world.specs.declared.kept.KeptPage.{KeptPage}
 use Rattle.world.proofs.Anew.{keys_set, room_after}
 use Rattle.world.proofs.remapping.set_keys.Goals as goal
 
@@ -12,4 +12,4 @@ pub returns : goal.returns
 returns c =
     keys_set c.args.table.now.records c.args.id c.in-Some.before c.in-Some-held.held c.args.keys _ _ c.put.new.self.records c.put-2.new.self.records
     (sym c.put.ensures.before ∙ c.in-Some.is) c.in-Some-held.is
-    (ap (λ (t : Tabled Kept). t.records) c.put.ensures.after) (ap (λ (t : Tabled Kept). t.records) c.put-2.ensures.after) refl
+    (ap (λ (t : Tabled KeptPage). t.records) c.put.ensures.after) (ap (λ (t : Tabled KeptPage). t.records) c.put-2.ensures.after) refl

@@ -1,7 +1,7 @@
 -- Without records, triples and texts all is in step.
 use Rattle.std.proofs.Common.{ap}
 use Rattle.entity_state.specs.Tabled.{Tabled}
-use Rattle.world.specs.{declared.kept.Kept.Kept, Holders.ByVersion}
+use Rattle.world.specs.{declared.kept.KeptPage.KeptPage, Holders.ByVersion}
 use Rattle.world.proofs.Starting.{none_by, none_timed, started, starts}
 use Rattle.replay_model.specs.Versions.{meaning_by}
 use Rattle.fetched_pages.specs.Meaning.{meaning}
@@ -10,11 +10,11 @@ use Rattle.world.proofs.holdings.Holdings.new.Goals as goal
 pub invariant_of-result : goal.invariant_of-result
 invariant_of-result c = record {
   kept = starts (meaning_by meaning c.new-3.result.by_two) c.in_ok-store.store c.in_ok-table.table.records c.in_ok-store.ensures.sound c.in_ok-store.ensures.counts c.in_ok-store.ensures.beside
-      (ap (λ (t : Tabled Kept). t.records) c.in_ok-table.ensures);
-  by = none_by c.new-3.result c.in_ok-table.table.records c.new-3.ensures (ap (λ (t : Tabled Kept). t.records) c.in_ok-table.ensures);
-  timed = none_timed c.in_ok-store.store c.new-3.result.by_two c.in_ok-table.table.records (ap (λ (t : Tabled Kept). t.records) c.in_ok-table.ensures);
+      (ap (λ (t : Tabled KeptPage). t.records) c.in_ok-table.ensures);
+  by = none_by c.new-3.result c.in_ok-table.table.records c.new-3.ensures (ap (λ (t : Tabled KeptPage). t.records) c.in_ok-table.ensures);
+  timed = none_timed c.in_ok-store.store c.new-3.result.by_two c.in_ok-table.table.records (ap (λ (t : Tabled KeptPage). t.records) c.in_ok-table.ensures);
 }
 
 pub returns : goal.returns
 returns c = started c.in_ok-store.store c.in_ok-table.table.records c.new-3.result.by_two c.args.limit
-    (ap (λ (t : Tabled Kept). t.records) c.in_ok-table.ensures) (ap (λ (i : ByVersion). i.by_two) c.new-3.ensures) c.in_ok-store.ensures.limit
+    (ap (λ (t : Tabled KeptPage). t.records) c.in_ok-table.ensures) (ap (λ (i : ByVersion). i.by_two) c.new-3.ensures) c.in_ok-store.ensures.limit

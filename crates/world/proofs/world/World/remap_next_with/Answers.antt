@@ -5,38 +5,25 @@ use Rattle.entity_json.specs.Document.{unfit_of}
 use Rattle.replay_model.specs.{Entries.HoldsUnlessOpen, Records.Records, Records.record_of, Replies.HoldsDocument}
 use Rattle.world.specs.WorldState.{stale_by}
 use Rattle.world.proofs.ByVersion.{fewer}
-use Rattle.world.proofs.world.World.remap_next_with.Goals.{in-Ok, in-Err-Full, in-Err-OutOfMemory}
 use Rattle.world.proofs.world.World.remap_next_with.Goals as goal
 
-pub invariant_of-self : goal.invariant_of-self
-invariant_of-self c = (
-  subst (λ (records : Records). HoldsUnlessOpen (record { records = records; side = c.self.inside.side.entries })) (sym c.remap-remapped.ensures.records) c.self.invariant.0,
+pub invariant_of-self-2 : goal.invariant_of-self-2
+invariant_of-self-2 c = (
+  subst (λ (records : Records). HoldsUnlessOpen (record { records = records; side = c.self.inside.side.entries })) (sym c.remap.ensures.records) c.self.invariant.0,
   c.facts.ensures.room,
   c.facts.ensures.holders,
-  subst (λ (records : Records). (x : EntityId) → HoldsDocument unfit_of x (record_of records x).held) (sym c.remap-remapped.ensures.records) c.self.invariant.3,
+  subst (λ (records : Records). (x : EntityId) → HoldsDocument unfit_of x (record_of records x).held) (sym c.remap.ensures.records) c.self.invariant.3,
 )
 
 pub returns-clause-fewer : goal.returns-clause-fewer
-returns-clause-fewer c = elim c.match-remapped.branch [
-  | in-Ok w ↦ rw (w.result-is, ← c.self.view_is)
-      (subst (λ (records : Records). length (stale_by c.self.inside.mapping c.remap-remapped.new.self.by_two records) + 1 ≡ length (stale_by c.self.inside.mapping c.self.inside.holdings.by_two c.self.inside.holdings.records))
-      (sym c.remap-remapped.ensures.records)
-      (fewer c.self.inside.mapping c.self.inside.holdings.by_two c.remap-remapped.new.self.by_two c.self.inside.holdings.records (Some c.in-Some.entity) c.self.invariant.2.rising
-      (sym c.in-Some.is ∙ c.next_stale.ensures.entity) w.in-Ok.ensures.by_two))
-  | in-Err-Full w ↦ rw w.result-is tt
-  | in-Err-OutOfMemory w ↦ rw w.result-is tt
-]
+returns-clause-fewer c = rw (← c.self.view_is)
+    (subst (λ (records : Records). length (stale_by c.self.inside.mapping c.remap.new.self.by_two records) + 1 ≡ length (stale_by c.self.inside.mapping c.self.inside.holdings.by_two c.self.inside.holdings.records))
+    (sym c.remap.ensures.records)
+    (fewer c.self.inside.mapping c.self.inside.holdings.by_two c.remap.new.self.by_two c.self.inside.holdings.records (Some c.in-Some.entity) c.self.invariant.2.rising
+    (sym c.in-Some.is ∙ c.next_stale.ensures.entity) c.in_ok-remapped.ensures.by_two))
 
 pub returns-clause-change : goal.returns-clause-change
-returns-clause-change c = elim c.match-remapped.branch [
-  | in-Ok w ↦ rw (w.result-is, ← c.self.view_is) w.in-Ok.ensures.change
-  | in-Err-Full w ↦ rw w.result-is tt
-  | in-Err-OutOfMemory w ↦ rw w.result-is tt
-]
+returns-clause-change c = rw (← c.self.view_is) c.in_ok-remapped.ensures.change
 
 pub returns-clause-triples : goal.returns-clause-triples
-returns-clause-triples c = elim c.match-remapped.branch [
-  | in-Ok w ↦ rw (w.result-is, ← c.self.view_is) w.in-Ok.ensures.triples
-  | in-Err-Full w ↦ rw w.result-is tt
-  | in-Err-OutOfMemory w ↦ rw w.result-is tt
-]
+returns-clause-triples c = rw (← c.self.view_is) c.in_ok-remapped.ensures.triples

@@ -48,3 +48,19 @@ returns-clause-by_one c = rw (← c.self.view_is) (λ one. elim c.match-restored
       ∙ put_by_one c.self.inside.mapping c.self.inside.holdings.records c.args.id c.args.entity ∙ ap (all_by c.self.inside.mapping) (sym w.in-Ok.ensures.ok)
   | in-Err w ↦ ap (λ (h : HoldingsState). h.by_two) w.in-Err.ensures.err ∙ one ∙ ap (λ (h : HoldingsState). all_by c.self.inside.mapping h.records) (sym w.in-Err.ensures.err)
 ])
+
+pub returns-clause-sound_if_full : goal.returns-clause-sound_if_full
+returns-clause-sound_if_full c =
+    let told : is_accounted_for c.self.inside.side.entries c.args.id c.args.entity ≡ true = search rules in
+    elim c.match-restored.branch [
+      | in-Ok w ↦ rw w.result-is (λ never. cc)
+      | in-Err w ↦ rw (w.result-is, ← c.self.view_is) (λ full. accounted_stands c.self.inside.side.entries c.args.id c.args.entity told (w.in-Err.ensures.document_if_full full))
+    ]
+
+pub returns-clause-refused : goal.returns-clause-refused
+returns-clause-refused c =
+    let told : is_accounted_for c.self.inside.side.entries c.args.id c.args.entity ≡ true = search rules in
+    elim c.match-restored.branch [
+      | in-Ok w ↦ rw w.result-is (λ never. cc)
+      | in-Err w ↦ rw (w.result-is, ← c.self.view_is) (λ refused. record { accounted = told; takes = w.in-Err.ensures.refused refused })
+    ]

@@ -14,7 +14,7 @@ use entity_model::EntityId;
 use graph_routes::Routes;
 use rdf_term::OutOfMemory;
 use triple_texts::TripleTexts;
-use world::{Applied, RoutedPage};
+use world::{AppliedEvent, RoutedPage};
 
 /// The routes of graphs, if there are graphs. It takes no memory.
 pub fn routes_of(graphs: &Option<Graphs>) -> Option<&Routes>
@@ -32,7 +32,7 @@ pub fn routes_of(graphs: &Option<Graphs>) -> Option<&Routes>
 /// Memory was refused, now or at an earlier step: the graphs are lost.
 pub fn follow_application(
     graphs: &mut Option<Graphs>,
-    applied: &Applied,
+    applied: &AppliedEvent,
     routed: Option<RoutedPage>,
 ) -> Result<(), OutOfMemory>
     requires sound { IfSome (routes_of graphs.old) (λ routes. IsSound routes applied.now.outcome routed) }

@@ -15,10 +15,10 @@ ghost use Rattle.world.specs.{Changing.Tells, Keeping.FreesPiece, Keeping.kept_o
 ghost use Rattle.world.specs.{Applying.unfetched_outcome, Applying.unless_deleted, Refused.TellsDropped, Roomed.room_with};
 ghost use Rattle.world.specs.WorldState.{by_two_after, stored_in};
 
-use crate::applied::{Effect, Outcome};
+use crate::applied::{HeldChange, Outcome};
 use crate::holders::other;
 use crate::holdings::{Holdings, make_room};
-use crate::kept::{Kept, keys_of, times_of};
+use crate::kept::{KeptPage, keys_of, times_of};
 use crate::swapping::{Had, PageExchange, SwapSetting, exchange_page};
 use entity_model::{EntityId, MappingVersion};
 use entity_state::{Held, Mode, Record, Standing, Table};
@@ -82,7 +82,7 @@ impl Holdings {
             ) => {
                 let held = Held {
                     revision: wanted.rev,
-                    content: Kept { piece, keys, times },
+                    content: KeptPage { piece, keys, times },
                 };
                 replace(
                     &mut self.store,
@@ -109,7 +109,7 @@ impl Holdings {
         id: EntityId,
         after: Standing,
         telling: Telling,
-    ) -> Result<Effect, OutOfMemory>
+    ) -> Result<HeldChange, OutOfMemory>
         ensures records { OnOk result (self.new.records ≡ map.insert self.old.records id (record {
           state = after.state;
           held = unless_deleted after.state.mode (record_of self.old.records id).held;
@@ -126,7 +126,7 @@ impl Holdings {
         match after.state.mode {
             Mode::Deleted => {
                 let change = self.release(id, after, telling)?;
-                Ok(Effect {
+                Ok(HeldChange {
                     outcome: Outcome::Dropped,
                     change,
                     routed: None,
@@ -134,7 +134,7 @@ impl Holdings {
             }
             Mode::Unknown | Mode::Kept => {
                 self.keep(id, after)?;
-                Ok(Effect {
+                Ok(HeldChange {
                     outcome: Outcome::Same,
                     change: None,
                     routed: None,
@@ -194,10 +194,10 @@ impl Holdings {
 // Puts a record and frees the piece of the page that the one before held.
 fn replace(
     store: &mut Store,
-    table: &mut Table<Kept>,
+    table: &mut Table<KeptPage>,
     id: EntityId,
     after: Standing,
-    held: Option<Held<Kept>>,
+    held: Option<Held<KeptPage>>,
 )
     requires room { IsTrue (has_room table.old id) }
     requires sound { IsSound store.old }
@@ -227,7 +227,7 @@ fn replace(
 }
 
 // Sets the record, whose page stays.
-fn keep_record(table: &mut Table<Kept>, id: EntityId, after: Standing)
+fn keep_record(table: &mut Table<KeptPage>, id: EntityId, after: Standing)
     requires { IsTrue (has_room table.old id) }
     ensures { table.new.records ≡ map.insert table.old.records id (record {
       state = after.state;
