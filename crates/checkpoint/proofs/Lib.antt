@@ -1,4 +1,5 @@
 mod Feeds
+pub mod OneCause
 mod Progress
 mod Rests
 mod SavedText

@@ -169,41 +169,58 @@ module _ (bytes : List ℕ) (left : Option (List ℕ)) (reader : Reading) (loadi
     after_it None first = let never : Some behind.others ≡ None = sym behind.is ∙ first in cc
     after_it (Some others) first = (others, first)
 
+    -- it comes behind the lines so far, which lead there
+    pub record NextLine (there : Loading) : Type 0 where
+      pub first : BeginsWith bytes p.done there
+      pub others : List (List ℕ)
+      pub others_are : first.others ≡ text ∷ others
+
+    pub next_line : (there : Loading) → loading ≡ there → NextLine there
+    next_line there same =
+        let behind_it = after_it (input_lines (unread next left_next)) is.first in
+        record {
+          first = record {
+            others = text ∷ behind_it.0;
+            are = first_lines (text ∷ behind_it.0) behind_it.1;
+            readable = p.readable;
+            items = p.items;
+            read = p.are;
+            lead = subst (Leads unbegun p.items) same p.lead;
+          };
+          others = behind_it.0;
+          others_are = refl;
+        }
+
     pub refused_line : (number : ℕ) → number ≡ reader.given + 1 → IsRefused text loading → IsBadSnapshotLine bytes number
     refused_line number next_is refused =
-        let there = after_it (input_lines (unread next left_next)) is.first in
+        let line = next_line loading refl in
         record {
           done = p.done;
           loading = loading;
-          first = record { others = text ∷ there.0; are = first_lines (text ∷ there.0) there.1; readable = p.readable; items = p.items; read = p.are; lead = p.lead };
+          first = line.first;
           counted = next_is ∙ ap (λ k. k + 1) p.read.counted;
           line = text;
-          others = there.0;
-          next = refl;
+          others = line.others;
+          next = line.others_are;
           refused = inl refused;
         }
 
-    pub full_line : (w : WorldState) (stage : Stage) (room : ℕ) → loading ≡ loading_of w stage reader.given → w.limit ≡ room → IsReady w stage reader.given → Overfills text w → IsFileOverfull room bytes
-    full_line w stage room stands limit ready over =
-        let there = after_it (input_lines (unread next left_next)) is.first in
+    pub full_line : (w : WorldState) (stage : Stage) (limit : ℕ) → loading ≡ loading_of w stage reader.given → w.limit ≡ limit → IsReady w stage reader.given → length text ≤ longest_line
+        → Overfills text (loading_of w stage reader.given) w → IsFileOverfull limit bytes
+    full_line w stage limit stands limit_is ready short over =
+        let line = next_line (loading_of w stage (length p.done)) (stands ∙ ap (loading_of w stage) p.read.counted) in
         record {
           world = w;
           stage = stage;
           done = p.done;
-          limit = limit;
+          limit = limit_is;
           ready = subst (IsReady w stage) p.read.counted ready;
-          first = record {
-            others = text ∷ there.0;
-            are = first_lines (text ∷ there.0) there.1;
-            readable = p.readable;
-            items = p.items;
-            read = p.are;
-            lead = subst (Leads unbegun p.items) (stands ∙ ap (loading_of w stage) p.read.counted) p.lead;
-          };
+          first = line.first;
           line = text;
-          others = there.0;
-          next = refl;
-          over = over;
+          others = line.others;
+          next = line.others_are;
+          short = short;
+          over = subst (λ k. Overfills text (loading_of w stage k) w) p.read.counted over;
         }
 
   -- the bytes that are unread

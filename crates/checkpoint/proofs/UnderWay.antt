@@ -2,25 +2,28 @@
 use Rattle.std.proofs.Common.{◌≡◌, ◌≢◌, ℕ, ◌+◌, ◌-◌, ◌<◌, ◌≤◌, ◌^◌, true, false, List, [], ◌∷◌, ◌++◌, length, Option, None, Some, IfSome, min, inl, inr, refl, sym, ◌∙◌, ap, subst, arith}
 use Rattle.std.specs.Option.{option_map}
 use Rattle.wq_io.specs.Streams.{before_known, IsAtEnd}
-use Rattle.wq_io.specs.Lines.{GoesOn, HasCause as HasReadCause, IsSound, Reading, fresh, input_length, input_lines, taken, unread}
+use Rattle.wq_io.specs.Lines.{GoesOn, HasCause as HasReadCause, IsSound, Reading, fresh, input_length, input_lines, lines, taken, unread}
 use Rattle.wq_io.specs.declared.lines.LineFault.{LineFault}
 use Rattle.wq_io.specs.declared.lines.LineFault.TheVariants.{ReadFault as NotRead, TooLong as OverLong, LineLong, OutOfMemory as LineOutOfMemory}
 use Rattle.world.specs.WorldState.{WorldState}
-use Rattle.snapshot.specs.{File.saved_in_bytes, Whole.whole, declared.counts.Counts.Counts}
+use Rattle.snapshot.specs.{File.saved_in_bytes, LineText.line_of, Whole.whole, declared.line.Line.Line, declared.counts.Counts.Counts}
 use Rattle.checkpoint.specs.declared.fault.LoadFault.{LoadFault}
 use Rattle.checkpoint.specs.declared.fault.LoadFault.TheVariants.{ReadFault, TooLong, BadLine, Full, OutOfMemory}
 use Rattle.checkpoint.specs.declared.loader.Stage.{Stage}
 use Rattle.checkpoint.specs.declared.loader.Stage.TheVariants.{Unbegun, Ended}
-use Rattle.checkpoint.specs.{Causes.HasCause, Causes.IsUnended, Causes.longest_file, Fault.fault_of}
-use Rattle.checkpoint.specs.Loading.{IsReady, IsRefused, Overfills, LoadsLine, loading_of, longest_line}
+use Rattle.checkpoint.specs.{Causes.HasCause, Causes.IsBadSnapshotLine, Causes.IsFileOverfull, Causes.IsNoSnapshotWithin, Causes.IsUnended, Causes.longest_file, Fault.fault_of}
+use Rattle.checkpoint.specs.Loading.{HasNoRoomForLine, IsReady, IsRefused, Overfills, LoadsLine, loading_of, longest_line}
 use Rattle.checkpoint.specs.Saved.{saved_of}
-use Rattle.checkpoint.proofs.Progress.{IsNextLine, Progress, ends_early, full_line, line_read, nothing_read, over_long, refused_line, saved, too_long, unended}
+use Rattle.checkpoint.proofs.OneCause.{comes_later, not_behind_bad, one_of_all}
+use Rattle.checkpoint.proofs.Progress.{IsNextLine, Progress, ends_early, full_line, line_read, next_line, nothing_read, over_long, refused_line, saved, too_long, unended}
 
 -- the lines so far were read and went into the world
 pub record UnderWay (room : ℕ) (start : Option (List ℕ)) (reader : Reading) (left : Option (List ℕ)) (w : WorldState) (stage : Stage) (given so_far : ℕ) : Type 0 where
   pub progress : Progress start reader left (loading_of w stage given) so_far
   pub ready : IsReady w stage given
   pub limit : w.limit ≡ room
+  -- none of them lacks room
+  pub roomy : IfSome start (λ bytes. (over : IsFileOverfull room bytes) → given ≤ length over.done)
   pub given_is : given ≡ reader.given
   pub max_bytes : reader.max_bytes ≡ longest_file
   pub max_line : reader.max_line ≡ longest_line
@@ -36,6 +39,7 @@ begins room start w stage is ready limit = record {
   progress = subst (λ (s : Stage). Progress start (fresh longest_file longest_line) start (loading_of w s 0) 0) (sym is) (nothing_read longest_file longest_line start);
   ready = ready;
   limit = limit;
+  roomy = none_yet start;
   given_is = refl;
   max_bytes = refl;
   max_line = refl;
@@ -43,20 +47,25 @@ begins room start w stage is ready limit = record {
   going = refl;
   ended = λ never. cc;
 }
+  where
+    none_yet : (known : Option (List ℕ)) → IfSome known (λ bytes. (over : IsFileOverfull room bytes) → 0 ≤ length over.done)
+    none_yet None = tt
+    none_yet (Some bytes) = λ over. omega arith
 
 -- one more line
 pub goes_on : (room : ℕ) (start left left_next : Option (List ℕ)) (reader next : Reading) (w w2 : WorldState) (stage stage2 : Stage) (given number n m : ℕ) (text : List ℕ)
     → UnderWay room start reader left w stage given n → IsNextLine text reader next left left_next → GoesOn reader next text → number ≡ given + 1
     → (next.ended ≡ true → IsAtEnd left_next)
-    → LoadsLine text (loading_of w stage (number - 1)) (loading_of w2 stage2 number) → IsReady w2 stage2 number → w2.limit ≡ w.limit → m ≡ min (n + length text + 1) (2 ^ 64 - 1)
-    → UnderWay room start next left_next w2 stage2 number m
-goes_on room start left left_next reader next w w2 stage stage2 given number n m text u is goes next_is ended takes ready limit longer =
+    → LoadsLine text (loading_of w stage (number - 1)) (loading_of w2 stage2 number) → IsReady w2 stage2 number → w2.limit ≡ w.limit
+    → ((item : Line) → line_of text ≡ Some item → HasNoRoomForLine w item → ⊥) → m ≡ min (n + length text + 1) (2 ^ 64 - 1) → UnderWay room start next left_next w2 stage2 number m
+goes_on room start left left_next reader next w w2 stage stage2 given number n m text u is goes next_is ended takes ready limit has_room longer =
     let before : number - 1 ≡ given = omega arith in
     record {
       progress = line_read start left left_next reader next (loading_of w stage given) (loading_of w2 stage2 number) n m text u.progress is
           (subst (λ k. LoadsLine text (loading_of w stage k) (loading_of w2 stage2 number)) before takes) (subst (λ k. length text ≤ k) u.max_line goes.short) longer;
       ready = ready;
       limit = limit ∙ u.limit;
+      roomy = subst (λ k. IfSome start (λ bytes. (over : IsFileOverfull room bytes) → k ≤ length over.done)) (sym next_is) (still_roomy start u is);
       given_is = next_is ∙ ap (λ k. k + 1) u.given_is ∙ sym is.given;
       max_bytes = goes.limit ∙ u.max_bytes;
       max_line = goes.longest ∙ u.max_line;
@@ -64,6 +73,19 @@ goes_on room start left left_next reader next w w2 stage stage2 given number n m
       going = goes.going;
       ended = ended;
     }
+  where
+    still_roomy : (known : Option (List ℕ)) → UnderWay room known reader left w stage given n → IsNextLine text reader next left left_next
+        → IfSome known (λ bytes. (over : IsFileOverfull room bytes) → given + 1 ≤ length over.done)
+    still_roomy None u is = tt
+    still_roomy (Some bytes) u is = λ over.
+        let counted : given ≡ length u.progress.done = u.given_is ∙ u.progress.read.counted in
+        let line = next_line bytes left reader (loading_of w stage given) n u.progress text left_next next is (loading_of w stage given) refl in
+        omega (
+          arith,
+          counted,
+          comes_later room bytes over w stage given u.progress.done line.first text line.others line.others_are u.limit u.ready.by_one has_room
+              (subst (λ k. k ≤ length over.done) counted (u.roomy over)),
+        )
 
 -- where no line is left all stays
 pub none_left : (room : ℕ) (start left left_next : Option (List ℕ)) (reader next : Reading) (w : WorldState) (stage : Stage) (given n : ℕ) (text : List ℕ)
@@ -85,6 +107,7 @@ none_left room start left left_next reader next w stage given n text u same tota
   };
   ready = u.ready;
   limit = u.limit;
+  roomy = u.roomy;
   given_is = u.given_is ∙ sym no_more;
   max_bytes = goes.limit ∙ u.max_bytes;
   max_line = goes.longest ∙ u.max_line;
@@ -102,6 +125,14 @@ nothing_left held (Some bytes) at_end = no_second held bytes at_end
     no_second [] ys none = none
     no_second (x ∷ xs) ys none = cc
 
+-- a line that is refused, where no line before lacks room
+bad_within : (room : ℕ) (bytes : List ℕ) (number given : ℕ) → number ≡ given + 1 → IsBadSnapshotLine bytes number → ((over : IsFileOverfull room bytes) → given ≤ length over.done) → IsNoSnapshotWithin room bytes number
+bad_within room bytes number given next_is bad roomy = (inl bad, λ over. not_behind_bad room bytes over number bad (omega (arith, next_is, bad.counted, roomy over)))
+
+-- where all lines came, none lacks room
+none_lacks : (room : ℕ) (bytes : List ℕ) (given : ℕ) → given ≡ length (lines bytes) → ((over : IsFileOverfull room bytes) → given ≤ length over.done) → IsFileOverfull room bytes → ⊥
+none_lacks room bytes given all roomy over = absurd (omega (arith, all, roomy over, one_of_all room bytes over))
+
 -- the reader gives no line
 pub fault_stops : (room : ℕ) (start left : Option (List ℕ)) (reader : Reading) (w : WorldState) (stage : Stage) (given n : ℕ) → UnderWay room start reader left w stage given n
     → (fault : LineFault) (before now first : ℕ) → first ≤ before → HasReadCause fault reader left before now → HasCause (fault_of fault) room start first now
@@ -111,41 +142,46 @@ fault_stops room (Some bytes) left reader w stage given n u OverLong before now 
     subst (λ k. k < length bytes) u.max_bytes (too_long bytes left reader (loading_of w stage given) n u.progress u.sound cause)
 fault_stops room None left reader w stage given n u (LineLong number) before now first later cause = tt
 fault_stops room (Some bytes) left reader w stage given n u (LineLong number) before now first later cause =
-    inl (over_long bytes left reader (loading_of w stage given) n u.progress number cause.0 u.max_line cause.1)
+    bad_within room bytes number given (cause.0 ∙ ap (λ k. k + 1) (sym u.given_is)) (over_long bytes left reader (loading_of w stage given) n u.progress number cause.0 u.max_line cause.1) u.roomy
 fault_stops room start left reader w stage given n u LineOutOfMemory before now first later cause = tt
 
 -- a line isn't taken
 pub line_stops : (room : ℕ) (start left left_next : Option (List ℕ)) (reader next : Reading) (w : WorldState) (stage : Stage) (given number n : ℕ) (text : List ℕ)
     → UnderWay room start reader left w stage given n → IsNextLine text reader next left left_next → number ≡ given + 1
-    → (fault : LoadFault) → ((k : ℕ) → fault ≡ BadLine k → (k ≡ number) × IsRefused text (loading_of w stage (number - 1))) → (fault ≡ Full → Overfills text w)
+    → (fault : LoadFault) → ((k : ℕ) → fault ≡ BadLine k → (k ≡ number) × IsRefused text (loading_of w stage (number - 1))) → (fault ≡ Full → Overfills text (loading_of w stage (number - 1)) w) → length text ≤ longest_line
     → (fault ≡ ReadFault → ⊥) → (fault ≡ TooLong → ⊥) → (first now : ℕ) → HasCause fault room start first now
-line_stops room start left left_next reader next w stage given number n text u is next_is ReadFault bad full no_read no_long first now = absurd (no_read refl)
-line_stops room start left left_next reader next w stage given number n text u is next_is TooLong bad full no_read no_long first now = absurd (no_long refl)
-line_stops room None left left_next reader next w stage given number n text u is next_is (BadLine k) bad full no_read no_long first now = tt
-line_stops room (Some bytes) left left_next reader next w stage given number n text u is next_is (BadLine k) bad full no_read no_long first now =
+line_stops room start left left_next reader next w stage given number n text u is next_is ReadFault bad full short no_read no_long first now = absurd (no_read refl)
+line_stops room start left left_next reader next w stage given number n text u is next_is TooLong bad full short no_read no_long first now = absurd (no_long refl)
+line_stops room None left left_next reader next w stage given number n text u is next_is (BadLine k) bad full short no_read no_long first now = tt
+line_stops room (Some bytes) left left_next reader next w stage given number n text u is next_is (BadLine k) bad full short no_read no_long first now =
     let before : number - 1 ≡ given = omega arith in
     let why = bad k refl in
-    inl (refused_line bytes left reader (loading_of w stage given) n u.progress text left_next next is k (why.0 ∙ next_is ∙ ap (λ m. m + 1) u.given_is)
+    bad_within room bytes k given (why.0 ∙ next_is)
+    (refused_line bytes left reader (loading_of w stage given) n u.progress text left_next next is k (why.0 ∙ next_is ∙ ap (λ m. m + 1) u.given_is)
     (subst (λ m. IsRefused text (loading_of w stage m)) before why.1))
-line_stops room None left left_next reader next w stage given number n text u is next_is Full bad full no_read no_long first now = tt
-line_stops room (Some bytes) left left_next reader next w stage given number n text u is next_is Full bad full no_read no_long first now =
+    u.roomy
+line_stops room None left left_next reader next w stage given number n text u is next_is Full bad full short no_read no_long first now = tt
+line_stops room (Some bytes) left left_next reader next w stage given number n text u is next_is Full bad full short no_read no_long first now =
     full_line bytes left reader (loading_of w stage given) n u.progress text left_next next is w stage room (ap (loading_of w stage) u.given_is) u.limit
-    (subst (IsReady w stage) u.given_is u.ready) (full refl)
-line_stops room start left left_next reader next w stage given number n text u is next_is OutOfMemory bad full no_read no_long first now = tt
+    (subst (IsReady w stage) u.given_is u.ready) short
+    (subst (λ k. Overfills text (loading_of w stage k) w) (let before : number - 1 ≡ reader.given = omega (arith, next_is, u.given_is) in before) (full refl))
+line_stops room start left left_next reader next w stage given number n text u is next_is OutOfMemory bad full short no_read no_long first now = tt
 
 -- the last line isn't ended
 pub unended_stops : (room : ℕ) (start left : Option (List ℕ)) (reader : Reading) (w : WorldState) (stage : Stage) (given n : ℕ) → UnderWay room start reader left w stage given n
     → IsAtEnd (unread reader left) → taken reader ≢ n → (first now : ℕ) → HasCause (BadLine given) room start first now
 unended_stops room None left reader w stage given n u at_end other first now = tt
 unended_stops room (Some bytes) left reader w stage given n u at_end other first now =
-    inr (inr (subst (IsUnended bytes) (sym u.given_is) (unended bytes left reader (loading_of w stage given) n u.progress at_end u.sound u.max_bytes other)))
+    let last = subst (IsUnended bytes) (sym u.given_is) (unended bytes left reader (loading_of w stage given) n u.progress at_end u.sound u.max_bytes other) in
+    (inr (inr last), none_lacks room bytes given last.counted u.roomy)
 
 -- the lines end before the snapshot does
 pub early_stops : (room : ℕ) (start left : Option (List ℕ)) (reader : Reading) (w : WorldState) (stage : Stage) (given n : ℕ) → UnderWay room start reader left w stage given n
     → IsAtEnd (unread reader left) → taken reader ≡ n → whole (loading_of w stage given) ≡ None → (first now : ℕ) → HasCause (BadLine (given + 1)) room start first now
 early_stops room None left reader w stage given n u at_end same short first now = tt
 early_stops room (Some bytes) left reader w stage given n u at_end same short first now =
-    inr (inl (ends_early bytes left reader (loading_of w stage given) n u.progress at_end u.sound u.max_bytes same (given + 1) (ap (λ k. k + 1) u.given_is) short))
+    let early = ends_early bytes left reader (loading_of w stage given) n u.progress at_end u.sound u.max_bytes same (given + 1) (ap (λ k. k + 1) u.given_is) short in
+    (inr (inl early), none_lacks room bytes given (omega (arith, early.counted)) u.roomy)
 
 -- the snapshot is whole
 pub all_loaded : (room : ℕ) (start left : Option (List ℕ)) (reader : Reading) (w : WorldState) (stage : Stage) (counts : Counts) (given n : ℕ) → UnderWay room start reader left w stage given n

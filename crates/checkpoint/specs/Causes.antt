@@ -1,5 +1,5 @@
 -- Why a file isn't loaded.
-use Rattle.std.specs.Prelude.{◌≡◌, ⊤, ◌⊎◌, ℕ, ◌+◌, ◌<◌, List, ◌∷◌, length, Option, None, Some, IfSome}
+use Rattle.std.specs.Prelude.{◌≡◌, ⊤, ◌⊎◌, ℕ, ◌+◌, ◌<◌, ◌≤◌, List, ◌∷◌, length, Option, None, Some, IfSome}
 use Rattle.wq_io.specs.{Lines.lines, Streams.Rose}
 use Rattle.world.specs.WorldState.{WorldState}
 use Rattle.snapshot.specs.{File.feeds, Whole.Loading, Whole.whole}
@@ -41,7 +41,8 @@ pub record IsUnended (bytes : List ℕ) (number : ℕ) : Type 0 where
 abbrev pub IsNoSnapshot : List ℕ → ℕ → Type 0
 IsNoSnapshot bytes number = IsBadSnapshotLine bytes number ⊎ (EndsEarly bytes number ⊎ IsUnended bytes number)
 
--- a line is that of a record which has no room in a world that may be loaded from those before it, with room for so many terms
+-- a line is that of a record which may come, but has no room in a world that may be loaded from those before it, with room for so many
+-- terms
 pub record IsFileOverfull (room : ℕ) (bytes : List ℕ) : Type 0 where
   pub world : WorldState
   pub stage : Stage
@@ -52,12 +53,18 @@ pub record IsFileOverfull (room : ℕ) (bytes : List ℕ) : Type 0 where
   pub line : List ℕ
   pub others : List (List ℕ)
   pub next : first.others ≡ line ∷ others
-  pub over : Overfills line world
+  pub short : length line ≤ longest_line
+  pub over : Overfills line (loading_of world stage (length done)) world
 
--- why a file isn't loaded, where its bytes are known. The first line that is refused decides, since each line before it may come
+-- the file is no snapshot, by the line with this number, and no line up to this one lacks room
+abbrev pub IsNoSnapshotWithin : ℕ → List ℕ → ℕ → Type 0
+IsNoSnapshotWithin room bytes number = IsNoSnapshot bytes number × ¬ (IsFileOverfull room bytes)
+
+-- why a file isn't loaded, where its bytes are known. The first line that is refused or lacks room decides, since each line before it may
+-- come and has room
 abbrev pub HasCause : LoadFault → ℕ → Option (List ℕ) → ℕ → ℕ → Type 0
 HasCause ReadFault room left before now = Rose before now
 HasCause TooLong room left before now = IfSome left (λ bytes. longest_file < length bytes)
-HasCause (BadLine number) room left before now = IfSome left (λ bytes. IsNoSnapshot bytes number)
+HasCause (BadLine number) room left before now = IfSome left (λ bytes. IsNoSnapshotWithin room bytes number)
 HasCause Full room left before now = IfSome left (IsFileOverfull room)
 HasCause OutOfMemory room left before now = ⊤

@@ -149,8 +149,16 @@ pub record LoadsLine (text : List ℕ) (before now : Loading) : Type 0 where
 abbrev pub IsRefused : List ℕ → Loading → Type 0
 IsRefused text loading = ¬ (IsUtf8 text) ⊎ ((item : Line) → line_of text ≡ Some item → IsOutOfPlace loading item)
 
--- the text is the line of a record that has no room
-pub record Overfills (text : List ℕ) (w : WorldState) : Type 0 where
+-- the line may come now, but has no room
+pub record LacksRoom (before : Loading) (w : WorldState) (line : Line) : Type 0 where
+  pub comes : MayCome before line
+  pub next : Loading
+  pub after : after_line before line ≡ Some next
+  pub over : HasNoRoomForLine w line
+
+-- the text is the line of a record that may come now, but has no room
+pub record Overfills (text : List ℕ) (before : Loading) (w : WorldState) : Type 0 where
+  pub utf8 : IsUtf8 text
   pub item : Line
   pub read : line_of text ≡ Some item
-  pub over : HasNoRoomForLine w item
+  pub lacks : LacksRoom before w item

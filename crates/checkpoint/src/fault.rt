@@ -16,11 +16,11 @@ pub enum LoadFault {
     /// The file has more than 1,099,511,627,776 bytes.
     #[error("snapshot too long")]
     TooLong,
-    /// The line with this number, from 1, is none that may come there, or has more than 67,108,864 bytes, or is the last one and lacks its
-    /// line feed; or the lines end too early, and the number is one more than that of the last.
+    /// The line with this number, counted from 1, may not come there, has more than 67,108,864 bytes, or is the last one and lacks its line
+    /// feed. If the lines end too early, the number is one more than that of the last line.
     #[error("snapshot: line {0}")]
     BadLine(u64),
-    /// The triples of the pages have more terms than there is room for.
+    /// The triples of the pages have more distinct terms than the limit.
     #[error("the store is full")]
     Full,
     /// A request for memory was refused.

@@ -7,7 +7,7 @@ ghost use Rattle.fetched_pages.specs.Meaning.{meaning};
 ghost use Rattle.world.specs.{Roomed.HasRoom, Restoring.MayStand, Restoring.restored};
 ghost use Rattle.snapshot.specs.{declared.line.Line.TheVariants.Entity, Waiting.at_mark, Whole.after_line, Whole.beginning, Whole.noting};
 ghost use Rattle.reorder_buffer.specs.Watermarks.{reached};
-ghost use Rattle.checkpoint.specs.Loading.{HasNoRoomForLine, IsOutOfPlace, IsReady, MayCome, loading_of, may_note};
+ghost use Rattle.checkpoint.specs.Loading.{HasNoRoomForLine, IsOutOfPlace, IsReady, LacksRoom, MayCome, loading_of, may_note};
 ghost use Rattle.checkpoint.specs.Saved.{AreWithin};
 ghost use Rattle.checkpoint.specs.declared.fault.LoadFault.TheVariants.{BadLine, Full, ReadFault, TooLong};
 
@@ -49,7 +49,7 @@ impl Loader {
         ensures limit { IfOk result (λ loader. loader.world.limit ≡ room) }
     {
         let mut world = World::new(alloc, keys)?;
-        world.set_room(room);
+        world.set_limit(room);
         Ok(Loader {
             world,
             stage: Stage::Unbegun,
@@ -65,7 +65,8 @@ impl Loader {
         ensures ready { OnOk result (IsReady self.new.world self.new.stage number) }
         ensures limit { self.new.world.limit ≡ self.old.world.limit }
         ensures bad { (n : ℕ) → IsErrOf result (BadLine n) → (n ≡ number) × IsOutOfPlace (loading_of self.old.world self.old.stage (number - 1)) line }
-        ensures full { IsErrOf result Full → HasNoRoomForLine self.old.world line }
+        ensures full { IsErrOf result Full → LacksRoom (loading_of self.old.world self.old.stage (number - 1)) self.old.world line }
+        ensures within { OnOk result (¬ (HasNoRoomForLine self.old.world line)) }
         ensures others { ¬ (IsErrOf result ReadFault) × ¬ (IsErrOf result TooLong) }
     {
         match (self.stage, line) {
@@ -189,7 +190,8 @@ fn restore(
     ensures held { HasRoom (meaning_by meaning world.new.by_two) world.new.limit world.new.replay.played.records }
     ensures err { OnErr result (world.new ≡ world.old) }
     ensures bad { (n : ℕ) → IsErrOf result (BadLine n) → (n ≡ number) × ¬ (MayStand world.old.replay.played.side id entity) }
-    ensures full { IsErrOf result Full → HasNoRoomForLine world.old (Entity id entity) }
+    ensures full { IsErrOf result Full → MayStand world.old.replay.played.side id entity × HasNoRoomForLine world.old (Entity id entity) }
+    ensures within { OnOk result (¬ (HasNoRoomForLine world.old (Entity id entity))) }
     ensures others { ¬ (IsErrOf result ReadFault) × ¬ (IsErrOf result TooLong) }
 {
     match world.restore(id, entity) {

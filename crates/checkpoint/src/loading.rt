@@ -8,9 +8,10 @@ ghost use Rattle.replay_model.specs.{Explained.is_applied, Replies.failed_events
 ghost use Rattle.sorted_sets.specs.Rising.{has};
 ghost use Rattle.fetched_pages.specs.Meaning.{meaning};
 ghost use Rattle.world.specs.{Roomed.HasRoom, WorldState.WorldState};
+ghost use Rattle.snapshot.specs.declared.line.Line.{Line as ALine};
 ghost use Rattle.snapshot.specs.{File.saved_in_bytes, LineText.line_of, Whole.whole};
 ghost use Rattle.checkpoint.specs.Causes.{HasCause};
-ghost use Rattle.checkpoint.specs.Loading.{HoldsDocuments, IsReady, IsRefused, IsResting, Overfills, LoadsLine, loading_of};
+ghost use Rattle.checkpoint.specs.Loading.{HasNoRoomForLine, HoldsDocuments, IsReady, IsRefused, IsResting, Overfills, LoadsLine, loading_of};
 ghost use Rattle.checkpoint.specs.Saved.{AreWithin, saved_of, world_of};
 ghost use Rattle.checkpoint.specs.declared.fault.LoadFault.TheVariants.{BadLine, Full, ReadFault, TooLong};
 ghost use Rattle.checkpoint.specs.declared.loader.Stage.TheVariants.{Ended, Unbegun};
@@ -21,7 +22,7 @@ use snapshot::{Counts, Line, read};
 use std::alloc::Global;
 use std::hash::RandomState;
 use std::str;
-use world::World;
+use world::{World, discard};
 use wq_io::{Lines, Source};
 
 /// The most bytes that a file may have.
@@ -30,21 +31,22 @@ const LONGEST_FILE: u64 = 1_099_511_627_776;
 /// The most bytes that a line may have without its line feed: a page has at most 8,388,608, of which each is at most six in JSON.
 const LONGEST_LINE: u64 = 67_108_864;
 
-/// A world that was loaded, and the counts that go on with it.
+/// A world that was loaded, and the counts from which a run continues with it.
 #[derive(Drop)]
 pub struct Loaded {
     pub world: World,
     pub counts: Counts,
 }
 
-/// Reads a snapshot into a new world with room for so many terms: the world that was saved, every page mapped by the version in force,
-/// and no event due. The hashes of the world are keyed by `keys`. Whoever made the file, what is held is documents of their entities, an
-/// entity holds what its state wants exactly where no entry of the side output tells otherwise, a fetch failed for such an event alone that
-/// was applied, all has room, and each count is at most 2^63.
+/// Reads a snapshot into a new world whose limit on terms is `room`: the world that was saved. Every page is mapped by the version in
+/// force, and no event is due. The hashes of the world are keyed by `keys`. Whoever made the file, each held page is a document of its
+/// entity, an entity holds what its state wants exactly if no entry of the side output says otherwise, each event with a failed fetch was
+/// applied, what is held is within the limit, and each count is at most 2^63.
 ///
 /// # Errors
-/// The file could not be read, or is too long; a line is none that may come there, is over-long, or lacks its line feed, or the lines end
-/// too early; the triples of the pages have more terms than there is room for; or memory was refused.
+/// The file can't be read, or is too long; a line may not come there, is over-long or lacks its line feed, or the lines end too early; the
+/// triples of the pages have more distinct terms than the limit; or memory is refused. The first line that is refused or lacks room
+/// decides, so of one file and one room at most one of these two is said, and one line.
 pub fn load<S: Source>(
     alloc: Global,
     keys: RandomState,
@@ -69,7 +71,10 @@ pub fn load<S: Source>(
             world: loader.world,
             counts,
         }),
-        Err(fault) => Err(fault),
+        Err(fault) => {
+            discard(loader.world);
+            Err(fault)
+        }
     }
 }
 
@@ -140,7 +145,8 @@ fn take_line(alloc: Global, text: &[u8], number: u64, loader: &mut Loader) -> Re
     ensures ready { OnOk result (IsReady loader.new.world loader.new.stage number) }
     ensures limit { loader.new.world.limit ≡ loader.old.world.limit }
     ensures bad { (n : ℕ) → IsErrOf result (BadLine n) → (n ≡ number) × IsRefused text.now (loading_of loader.old.world loader.old.stage (number - 1)) }
-    ensures full { IsErrOf result Full → Overfills text.now loader.old.world }
+    ensures full { IsErrOf result Full → Overfills text.now (loading_of loader.old.world loader.old.stage (number - 1)) loader.old.world }
+    ensures within { OnOk result ((item : ALine) → line_of text.now ≡ Some item → ¬ (HasNoRoomForLine loader.old.world item)) }
     ensures others { ¬ (IsErrOf result ReadFault) × ¬ (IsErrOf result TooLong) }
 {
     match read_line(alloc, text, number) {

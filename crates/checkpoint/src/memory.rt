@@ -30,7 +30,8 @@ impl Model for MemorySnapshots {
 }
 
 impl MemorySnapshots {
-    /// Nothing is kept yet. The calls of `begin`, `write` and `keep` whose numbers, from 1, are in `failing` fail.
+    /// Nothing is kept yet. The calls of `begin`, `write` and `keep` are counted together, from 1; those whose numbers are in `failing`
+    /// fail.
     pub fn new(alloc: Global, failing: List<u64>) -> MemorySnapshots
         ensures { result ≡ record { kept = []; written = []; calls = record { numbers = failing; calls = 0 } } }
     {

@@ -1,6 +1,7 @@
 // A world is written as a snapshot, which is kept.
 
 ghost use Rattle.std.specs.Prelude.{◌≡◌, ◌+◌, IfOk, flat_map, string_bytes};
+ghost use Rattle.std.specs.FinMap as map;
 ghost use Rattle.replay_model.specs.Records.{record_of};
 ghost use Rattle.snapshot.specs.declared.line.Line.TheVariants.{Entity, Remembered, Side};
 ghost use Rattle.snapshot.specs.{File.file_text, Whole.head_of};
@@ -17,12 +18,12 @@ use std::str;
 use text_output::Unwritten;
 use world::World;
 
-/// Keeps the snapshot of a world, behind those that were kept before. The version in force is that of every page; so the world is read back
-/// where every held page is mapped by it, and no event is due.
+/// Keeps the snapshot of a world, after those that were kept before. The snapshot has only the version in force; so the world is read back
+/// if every held page is mapped by this version, and no event is due.
 ///
 /// # Errors
-/// The snapshot could not be written or kept, or memory was refused: then it isn't kept, what was written of it is let go, and those that
-/// were kept before are as they were.
+/// The snapshot can't be written or kept, or memory is refused. Then it isn't kept, what was written of it is discarded, and those that
+/// were kept before stay as they were.
 pub fn save<F: Snapshots>(
     alloc: Global,
     world: &World,
@@ -54,8 +55,14 @@ fn write_and_keep<F: Snapshots>(
     snapshots.keep()
 }
 
-// Writes a snapshot line by line: the head with the counts, the events that are remembered, the side output, the records with the pages that
-// are held, and the number of lines.
+// The events that a world remembers, and the entities that have a record, each in their order.
+#[derive(Clone, Copy)]
+struct SavedLists<'a> {
+    events: &'a [Event],
+    entities: &'a [EntityId],
+}
+
+// Writes a snapshot line by line.
 fn write_lines<F: Snapshots>(
     alloc: Global,
     world: &World,
@@ -65,13 +72,33 @@ fn write_lines<F: Snapshots>(
     ensures { Writes (file_text (saved_of world.now counts)) (archive F.Snapshots out.old) (archive F.Snapshots out.new) result }
 {
     let events = world.remembered()?;
-    let ids = world.entities()?;
+    let entities = world.entities()?;
+    let lists = SavedLists {
+        events: events.as_slice(),
+        entities: entities.as_slice(),
+    };
+    write_parts(alloc, world, counts, lists, out)
+}
+
+// Writes the head with the counts, the events that are remembered, the side output, the records with the pages that are held, and the number
+// of lines.
+fn write_parts<F: Snapshots>(
+    alloc: Global,
+    world: &World,
+    counts: Counts,
+    lists: SavedLists<'_>,
+    out: &mut F,
+) -> Result<(), Unwritten>
+    requires events { lists.events.now ≡ world.now.replay.buffer.kept }
+    requires entities { lists.entities.now ≡ map.keys world.now.replay.played.records }
+    ensures { Writes (file_text (saved_of world.now counts)) (archive F.Snapshots out.old) (archive F.Snapshots out.new) result }
+{
     let entries = world.entries();
-    let lines = count_lines(events.len(), entries.len(), ids.len())?;
+    let lines = count_lines(lists.events.len(), entries.len(), lists.entities.len())?;
     write_line(alloc, &Line::Head(head_of(world, counts)), out)?;
-    write_events(alloc, events.as_slice(), out)?;
+    write_events(alloc, lists.events, out)?;
     write_entries(alloc, entries, out)?;
-    write_records(alloc, world, ids.as_slice(), out)?;
+    write_records(alloc, world, lists.entities, out)?;
     write_line(alloc, &Line::End(lines), out)
 }
 

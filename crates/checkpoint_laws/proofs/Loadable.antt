@@ -19,45 +19,21 @@ use Rattle.world.specs.{Restoring.MayStand, WorldState.WorldState}
 use Rattle.snapshot.specs.declared.line.Line.{Line}
 use Rattle.snapshot.specs.declared.line.Line.TheVariants.{Remembered, Side, End}
 use Rattle.snapshot.specs.{File.file_text, File.lines_in, Fit.HasDocument, Fit.IsFitLine, LineText.line_of, LineText.line_text}
-use Rattle.snapshot.specs.Whole.{Loading, Saved, unbegun, begun, ended as whole_of, after_line, beginning, entity_line, head_of, lines_before_end, noting, recording, remembering, snapshot_lines, whole}
+use Rattle.snapshot.specs.Whole.{Loading, Saved, unbegun, begun, ended as whole_of, beginning, entity_line, head_of, lines_before_end, noting, recording, remembering, snapshot_lines, whole}
 use Rattle.snapshot.specs.declared.counts.Counts.{Counts}
 use Rattle.snapshot.proofs.{FileBack.feeds-ended, FileBack.lines-ended, FileBack.lines_back, FileBack.lines_fit, LineLength.line_length}
 use Rattle.snapshot.proofs.{LineTextBack.line_text_back, LineUtf8.line_utf8}
 use Rattle.snapshot.proofs.WholeBack.{counted, kept_again, kept_in, lines_counted, not_before, noted_again, noted_in, recorded_in, same_count, same_state}
 use Rattle.checkpoint.specs.Causes.{EndsEarly, IsBadSnapshotLine, IsNoSnapshot, IsUnended}
-use Rattle.checkpoint.specs.Loading.{BeginsWith, HasReachedFailed, IsLoadable, IsOutOfPlace, IsRefused, Leads, MayCome, longest_line, may_note}
+use Rattle.checkpoint.specs.Loading.{BeginsWith, HasReachedFailed, IsLoadable, IsRefused, Leads, longest_line, may_note}
 use Rattle.checkpoint.specs.Saved.{saved_of}
+use Rattle.checkpoint.proofs.OneCause.{Comes, comes, each_front, in_place, leads_same}
 
 -- ---- lines that lead from one place to another
 
 pub leads-append : (a : Loading) (xs : List Line) (b : Loading) (ys : List Line) (c : Loading) → Leads a xs b → Leads b ys c → Leads a (xs ++ ys) c
 leads-append a [] b ys c first second = subst (λ (l : Loading). Leads l ys c) (sym first) second
 leads-append a (x ∷ xs) b ys c first second = (first.0, (first.1.0, first.1.1, leads-append first.1.0 xs b ys c first.1.2 second))
-
-next_same : (o : Option Loading) (a b : Loading) → o ≡ Some a → o ≡ Some b → a ≡ b
-next_same o a b first second = cc
-
-pub leads_same : (here : Loading) (items : List Line) (a b : Loading) → Leads here items a → Leads here items b → a ≡ b
-leads_same here [] a b first second = sym first ∙ second
-leads_same here (item ∷ items) a b first second =
-    let same : second.1.0 ≡ first.1.0 = next_same (after_line here item) second.1.0 first.1.0 second.1.1 first.1.1 in
-    leads_same first.1.0 items a b first.1.2 (subst (λ (l : Loading). Leads l items b) same second.1.2)
-
--- the line may come, and there is a place after it
-pub record Comes (here : Loading) (item : Line) : Type 0 where
-  pub may : MayCome here item
-  pub next : Loading
-  pub after : after_line here item ≡ Some next
-
-pub in_place : (loading : Loading) (item : Line) → Comes loading item → IsOutOfPlace loading item → ⊥
-in_place loading item here (inl none) = let never : Some here.next ≡ None = sym here.after ∙ none in cc
-in_place loading item here (inr may) = may here.may
-
-pub comes : (here : Loading) (front : List Line) (item : Line) (back : List Line) (there mid : Loading) → Leads here (front ++ item ∷ back) there → Leads here front mid → Comes mid item
-comes here [] item back there mid all lead = subst (λ (l : Loading). Comes l item) lead (record { may = all.0; next = all.1.0; after = all.1.1 })
-comes here (x ∷ front) item back there mid all lead =
-    let same : all.1.0 ≡ lead.1.0 = next_same (after_line here x) all.1.0 lead.1.0 all.1.1 lead.1.1 in
-    comes lead.1.0 front item back there mid (subst (λ (l : Loading). Leads l (front ++ item ∷ back) there) same all.1.2) lead.1.2
 
 -- ---- the lines of one form
 
@@ -151,10 +127,6 @@ cut_at f (x ∷ xs) (z ∷ front) y back is =
     let first : z ≡ f x = cc in
     let others : map f xs ≡ front ++ y ∷ back = cc in
     cut_behind f x xs z front y first (cut_at f xs front y back others)
-
-pub each_front : {A : Type 0} (P : A → Type 0) (xs ys : List A) → Each P (xs ++ ys) → Each P xs × Each P ys
-each_front P [] ys all = (tt, all)
-each_front P (x ∷ xs) ys all = let rest = each_front P xs ys all.1 in ((all.0, rest.0), rest.1)
 
 -- ---- a world that may be saved
 

@@ -32,7 +32,8 @@ use Rattle.checkpoint.specs.declared.loader.Stage.{Stage}
 use Rattle.checkpoint.specs.declared.loader.Stage.TheVariants.{Unbegun, Begun, Ended}
 use Rattle.checkpoint.specs.{Causes.IsFileOverfull, Loading.HasNoRoomForLine, Loading.IsLoadable, Loading.Leads, Loading.loading_of}
 use Rattle.checkpoint.specs.Saved.{saved_of}
-use Rattle.checkpoint_laws.proofs.Loadable.{Next, Stands, at, bytes, each_front, entries_lead, events_lead, leads-append, leads_same, next_line, noted, recorded, records_lead, s}
+use Rattle.checkpoint.proofs.OneCause.{each_front, leads_same}
+use Rattle.checkpoint_laws.proofs.Loadable.{Next, Stands, at, bytes, entries_lead, events_lead, leads-append, next_line, noted, recorded, records_lead, s}
 
 -- ---- fewer triples have no more terms
 
@@ -243,7 +244,7 @@ module _ (w : WorldState) (counts : Counts) (is : IsLoadable w counts) where
       over =
           let read : Some full.over.item ≡ Some next.item = sym full.over.read ∙ ap line_of next.text_is ∙ line_text_back next.item next.fit in
           let same : full.over.item ≡ next.item = cc in
-          subst (HasNoRoomForLine full.world) same full.over.over
+          subst (HasNoRoomForLine full.world) same full.over.lacks.over
 
       by_item : (item : Line) → next.item ≡ item → HasNoRoomForLine full.world item → room < room_with (meaning_by meaning w.by_two) w.replay.played.records []
       by_item (Begins h) item_is over = absurd over

@@ -8,7 +8,7 @@ pub struct Counts {
     /// How many matches were delivered to runs that answer questions; a split counts those that it passes over. They have numbers of their
     /// own.
     pub matches: u64,
-    /// The number of the last patch record, 0 where there was none.
+    /// How many numbers of records are taken: one for each record, and one for each replay or split that changed the stored triples.
     pub patches: u64,
     /// How many lines of the input were taken, so that whoever feeds a log goes on with the line after them.
     pub lines: u64,

@@ -11,11 +11,13 @@
 //!
 //! A page stands in its line as it is, behind a TAB, where it has no line feed; `parts` finds it there. Else it is a string in `held`.
 //!
-//! `line` has what one line says, and `counts` the counts in the head. `text` writes a line and reads it back, by `writing`, `reading` and `words`, through `serde_json`.
-//! `laws` says what holds of the format: what is written is read back, and a file that was cut off is refused.
+//! `line` has what one line says, and `counts` the counts in the head. `text` writes a line and reads it back, by `writing`, `reading`,
+//! `head_reading` and `words`, through `serde_json`. `laws` says what holds of the format: what is written is read back, and a file that
+//! was cut off is refused.
 #![tactic(auto)]
 
 mod counts;
+mod head_reading;
 mod laws;
 mod line;
 mod parts;

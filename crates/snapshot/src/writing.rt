@@ -1,7 +1,8 @@
 // The JSON value of each line, and its text.
 
-ghost use Rattle.std.specs.Prelude.{◌≡◌, IfOk, OnOk};
-ghost use Rattle.serde_json.specs.{Data.no_members, View.view, View.members_view};
+ghost use Rattle.std.specs.Prelude.{◌≡◌, IfOk, OnOk, codes};
+ghost use Rattle.serde_json.specs.{Data.no_members, Data.string, Data.put as with_member, View.view, View.members_view};
+ghost use Rattle.entity_model.specs.EntityId.{id_text};
 ghost use Rattle.snapshot.specs.Words.{mode_word, version_number};
 ghost use Rattle.snapshot.specs.LineData.{has_line_feed, if_some, nat_data, int_data, event_data, event_members, held_data, held_members, head_members, record_members, told_members, entry_members, line_members, line_data};
 
@@ -51,8 +52,7 @@ fn put_head(alloc: Global, head: &Head, object: &mut Map<String, Value>) -> Resu
     serde_json::put(object, alloc, "mark", int_or_null(head.mark))?;
     serde_json::put(object, alloc, "matches", Value::from(counts.matches))?;
     serde_json::put(object, alloc, "patches", Value::from(counts.patches))?;
-    serde_json::put(object, alloc, "snapshot", Value::from(3u64))?;
-    Ok(())
+    Ok(serde_json::put(object, alloc, "snapshot", Value::from(3u64))?)
 }
 
 // The value of a number, or null.
@@ -95,16 +95,34 @@ fn put_record(
     requires { members_view object.old.entries ≡ no_members }
     ensures { OnOk result (members_view object.new.entries ≡ record_members id kept.now) }
 {
-    let entity = Value::from(id.text(alloc)?.into_string());
-    serde_json::put(object, alloc, "entity", entity)?;
+    put_id(alloc, id, object)?;
     let held = held_or_null(alloc, &kept.held)?;
     serde_json::put(object, alloc, "held", held)?;
     let reconciled = event_or_null(alloc, kept.reconciled)?;
     serde_json::put(object, alloc, "reconciled", reconciled)?;
     serde_json::put(object, alloc, "rev", Value::from(kept.state.rev))?;
-    let mode = Value::try_from_str(alloc, mode_word(kept.state.mode))?;
-    serde_json::put(object, alloc, "state", mode)?;
-    Ok(())
+    put_text(alloc, "state", mode_word(kept.state.mode), object)
+}
+
+// Puts the id of an entity.
+fn put_id(alloc: Global, id: EntityId, object: &mut Map<String, Value>) -> Result<(), OutOfMemory>
+    ensures { OnOk result (members_view object.new.entries ≡ with_member (codes "entity") (string (id_text id)) (members_view object.old.entries)) }
+{
+    let text = id.text(alloc)?.into_string();
+    Ok(serde_json::put(object, alloc, "entity", Value::from(text))?)
+}
+
+// Puts a member whose value is a text.
+fn put_text(
+    alloc: Global,
+    key: &str,
+    text: &str,
+    object: &mut Map<String, Value>,
+) -> Result<(), OutOfMemory>
+    ensures { OnOk result (members_view object.new.entries ≡ with_member key.now (string text.now) (members_view object.old.entries)) }
+{
+    let text = Value::try_from_str(alloc, text)?;
+    Ok(serde_json::put(object, alloc, key, text)?)
 }
 
 // The value of what is held, or null.
@@ -137,10 +155,7 @@ fn put_held(
 {
     let page = held.content.as_str();
     if has_line_feed(page) {
-        let page = Value::try_from_str(alloc, page)?;
-        serde_json::put(object, alloc, "page", page)?;
-        serde_json::put(object, alloc, "rev", Value::from(held.revision))?;
-        return Ok(());
+        put_text(alloc, "page", page, object)?;
     }
     Ok(serde_json::put(object, alloc, "rev", Value::from(held.revision))?)
 }
@@ -190,11 +205,9 @@ fn put_told(
     requires { members_view object.old.entries ≡ no_members }
     ensures { OnOk result (members_view object.new.entries ≡ told_members word.now event.now no_members) }
 {
-    let word = Value::try_from_str(alloc, word)?;
-    serde_json::put(object, alloc, "entry", word)?;
+    put_text(alloc, "entry", word, object)?;
     let event = event_value(alloc, event)?;
-    serde_json::put(object, alloc, "event", event)?;
-    Ok(())
+    Ok(serde_json::put(object, alloc, "event", event)?)
 }
 
 // The value of an event.
@@ -215,13 +228,10 @@ fn put_event(
     requires { members_view object.old.entries ≡ no_members }
     ensures { OnOk result (members_view object.new.entries ≡ event_members event.now) }
 {
-    let entity = event.entity.text(alloc)?.into_string();
-    serde_json::put(object, alloc, "entity", Value::from(entity))?;
-    let kind = Value::try_from_str(alloc, kind_word(event.kind))?;
-    serde_json::put(object, alloc, "kind", kind)?;
+    put_id(alloc, event.entity, object)?;
+    put_text(alloc, "kind", kind_word(event.kind), object)?;
     serde_json::put(object, alloc, "micros", Value::from(event.time))?;
-    serde_json::put(object, alloc, "rev", Value::from(event.rev))?;
-    Ok(())
+    Ok(serde_json::put(object, alloc, "rev", Value::from(event.rev))?)
 }
 
 // The word for whether a page is there.

@@ -1,5 +1,5 @@
 -- The start, a fault of the reader, a line that isn't taken, and the end.
-use Rattle.std.proofs.Common.{rules, ◌≡◌, ◌≢◌, ◌+◌, Err, refl, sym, ap, ◌∙◌, arith, subst}
+use Rattle.std.proofs.Common.{rules, ◌≡◌, ◌≢◌, ◌+◌, ◌≤◌, length, Err, refl, sym, ap, ◌∙◌, arith, subst}
 use Rattle.std.proofs.lemmas.Result.{err_from_is_err_and}
 use Rattle.wq_io.specs.Lines.{taken}
 use Rattle.checkpoint.specs.Loading.{AreStageWithin}
@@ -29,6 +29,7 @@ returns-in_err-take_line-clause-fault g c =
     rw (p.1, p.2) (line_stops c.args.loader.now.world.limit _ _ (g.S.Source.left c.next.new.source) _ c.next.new.self _ _ _ c.in-Some.number _ c.next.new.line.items c.loop-line.invariant.0
     (record { first = line; total = c.in_ok-number.ensures.length; given = sym number.1 ∙ number.0 }) (number.0 ∙ ap (λ k. k + 1) (sym c.loop-line.invariant.0.given_is)) _
     (λ k is. bad k (ap (λ fault. Err fault) is)) (λ is. full (ap (λ fault. Err fault) is))
+    (subst (λ k. length c.next.new.line.items ≤ k) c.loop-line.invariant.0.max_line c.in_ok-number.ensures.goes_on.short)
     (λ is. c.in_err-take_line.ensures.others.0 (ap (λ fault. Err fault) is)) (λ is. c.in_err-take_line.ensures.others.1 (ap (λ fault. Err fault) is)) _ _)
 
 pub loop-line-preserved : goal.loop-line-preserved
@@ -36,10 +37,11 @@ loop-line-preserved g c =
     let line = rw c.in-Some.is at c.in_ok-number.ensures.line in
     let number = rw c.in-Some.is at c.in_ok-number.ensures.number in
     let takes = rw c.as_slice.ensures.value at c.in_ok-take_line.ensures.ok in
+    let has_room = rw c.as_slice.ensures.value at c.in_ok-take_line.ensures.within in
     let longer = rw c.as_slice-in-Some.ensures.value at c.with_line-length.ensures in (
       goes_on c.args.loader.now.world.limit _ _ (g.S.Source.left c.next.new.source) _ c.next.new.self _ _ _ _ _ c.in-Some.number _ _ c.next.new.line.items c.loop-line.invariant.0
           (record { first = line; total = c.in_ok-number.ensures.length; given = sym number.1 ∙ number.0 }) c.in_ok-number.ensures.goes_on
-          (number.0 ∙ ap (λ k. k + 1) (sym c.loop-line.invariant.0.given_is)) c.in_ok-number.ensures.ended takes c.in_ok-take_line.ensures.ready c.take_line.ensures.limit longer,
+          (number.0 ∙ ap (λ k. k + 1) (sym c.loop-line.invariant.0.given_is)) c.in_ok-number.ensures.ended takes c.in_ok-take_line.ensures.ready c.take_line.ensures.limit has_room longer,
       omega (arith, c.loop-line.invariant.1, c.next.ensures.later),
       c.next.ensures.most ∙ c.loop-line.invariant.2,
     )

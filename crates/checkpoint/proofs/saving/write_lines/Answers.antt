@@ -1,8 +1,7 @@
--- The lines are those of the snapshot; where one isn't written, the others are no matter.
-use Rattle.std.proofs.Common.{Ok, arith}
+-- Where memory is refused, no line is written.
 use Rattle.std.proofs.lemmas.Result.{err_from_is_err_and}
-use Rattle.checkpoint.specs.{Archive.archive, Saved.saved_of}
-use Rattle.checkpoint.proofs.{SavedText.save_all, Written.fails_at_once, Written.fails_then, Written.writes_both, Written.writes_nothing}
+use Rattle.checkpoint.specs.Archive.{archive}
+use Rattle.checkpoint.proofs.Written.{fails_at_once}
 use Rattle.checkpoint.proofs.saving.write_lines.Goals as goal
 
 pub returns-in_err-events : goal.returns-in_err-events
@@ -10,39 +9,7 @@ returns-in_err-events g c =
     let p = err_from_is_err_and c.from_residual.result c.from_residual.ensures.1 in
     rw (p.1, p.2) (fails_at_once _ (archive g.F.Snapshots c.args.out.now))
 
-pub returns-in_err-ids : goal.returns-in_err-ids
-returns-in_err-ids g c =
-    let p = err_from_is_err_and c.from_residual-in_err-ids.result c.from_residual-in_err-ids.ensures.1 in
+pub returns-in_err-entities : goal.returns-in_err-entities
+returns-in_err-entities g c =
+    let p = err_from_is_err_and c.from_residual-in_err-entities.result c.from_residual-in_err-entities.ensures.1 in
     rw (p.1, p.2) (fails_at_once _ (archive g.F.Snapshots c.args.out.now))
-
-pub returns-in_err-lines : goal.returns-in_err-lines
-returns-in_err-lines g c =
-    let p = err_from_is_err_and c.from_residual-in_err-lines.result c.from_residual-in_err-lines.ensures.1 in
-    rw (p.1, p.2) (fails_at_once _ (archive g.F.Snapshots c.args.out.now))
-
-pub returns-in_err-write_line : goal.returns-in_err-write_line
-returns-in_err-write_line g c =
-    let p = err_from_is_err_and c.from_residual-in_err-write_line.result c.from_residual-in_err-write_line.ensures.1 in
-    rw (p.1, p.2) (fails_then _ _ _ _ _ _ _ (writes_nothing (archive g.F.Snapshots c.args.out.now)) c.in_err-write_line.ensures)
-
-pub returns-in_err-write_events : goal.returns-in_err-write_events
-returns-in_err-write_events g c =
-    let p = err_from_is_err_and c.from_residual-in_err-write_events.result c.from_residual-in_err-write_events.ensures.1 in
-    rw (p.1, p.2) (fails_then _ _ _ _ _ _ _ c.in_ok-write_line.ensures c.in_err-write_events.ensures)
-
-pub returns-in_err-write_entries : goal.returns-in_err-write_entries
-returns-in_err-write_entries g c =
-    let p = err_from_is_err_and c.from_residual-in_err-write_entries.result c.from_residual-in_err-write_entries.ensures.1 in
-    rw (p.1, p.2) (fails_then _ _ _ _ _ _ _ (writes_both (Ok tt) _ _ _ _ _ c.in_ok-write_line.ensures c.in_ok-write_events.ensures) c.in_err-write_entries.ensures)
-
-pub returns-in_err-write_records : goal.returns-in_err-write_records
-returns-in_err-write_records g c =
-    let p = err_from_is_err_and c.from_residual-in_err-write_records.result c.from_residual-in_err-write_records.ensures.1 in
-    rw (p.1, p.2) (fails_then _ _ _ _ _ _ _ (writes_both (Ok tt) _ _ _ _ _ (writes_both (Ok tt) _ _ _ _ _ c.in_ok-write_line.ensures c.in_ok-write_events.ensures) c.in_ok-write_entries.ensures)
-    c.in_err-write_records.ensures)
-
-pub returns : goal.returns
-returns g c =
-    save_all (saved_of c.args.world.now c.args.counts) c.head_of.result c.in_ok-events.events c.entries-entries.result.now c.in_ok-ids.ids c.in_ok-lines.lines
-    c.head_of.ensures c.in_ok-events.ensures c.entries-entries.ensures c.in_ok-ids.ensures (omega arith) _ _ _ _ _ _ _ c.in_ok-write_line.ensures (rw c.as_slice.ensures at c.in_ok-write_events.ensures)
-    c.in_ok-write_entries.ensures (rw c.as_slice-2.ensures at c.in_ok-write_records.ensures) c.write_line-2.ensures

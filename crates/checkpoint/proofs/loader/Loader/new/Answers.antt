@@ -6,10 +6,10 @@ use Rattle.checkpoint.specs.{declared.loader.Stage.TheVariants.Unbegun, Loading.
 use Rattle.checkpoint.proofs.Steps.{new_ready}
 use Rattle.checkpoint.proofs.loader.Loader.new.Goals as goal
 
-pub set_room-requires : goal.set_room-requires
-set_room-requires c = rw c.in_ok-world.ensures (len-empty _ _)
+pub set_limit-requires : goal.set_limit-requires
+set_limit-requires c = rw c.in_ok-world.ensures (len-empty _ _)
 
 pub returns-clause-fresh : goal.returns-clause-fresh
 returns-clause-fresh c =
-    let is = c.set_room.ensures ∙ ap (λ (w : WorldState). record w { limit = c.args.room }) c.in_ok-world.ensures in
+    let is = c.set_limit.ensures ∙ ap (λ (w : WorldState). record w { limit = c.args.room }) c.in_ok-world.ensures in
     (refl, subst (λ (w : WorldState). IsReady w Unbegun 0) (sym is) (new_ready c.args.room))

@@ -1,7 +1,9 @@
 -- After each line the world may take more.
-use Rattle.std.proofs.Common.{◌-◌, sym, subst}
+use Rattle.std.proofs.Common.{◌-◌, refl, sym, subst}
 use Rattle.std.specs.Result.{OnOk}
-use Rattle.checkpoint.specs.{declared.loader.Stage.Stage, Loading.IsReady, Saved.AreWithin}
+use Rattle.snapshot.specs.declared.line.Line.TheVariants.{Entity}
+use Rattle.checkpoint.specs.declared.loader.Stage.TheVariants.{Begun}
+use Rattle.checkpoint.specs.{declared.loader.Stage.Stage, Loading.IsReady, Loading.LacksRoom, Loading.loading_of, Saved.AreWithin}
 use Rattle.checkpoint.proofs.Steps.{entry_ready, event_ready, head_ready, on_ok_both, record_ready}
 use Rattle.checkpoint.proofs.loader.Loader.take.Goals as goal
 
@@ -32,3 +34,9 @@ returns-in-Begun-Entity-clause-ready c =
     let ready = subst (λ (s : Stage). IsReady c.args.self.now.world s (c.args.number - 1)) c.in-Begun-Entity.is-0 c.requires.ready in
     record_ready c.args.self.now.world c.restore.new.world c.in-Begun-Entity.field-0-0 (c.args.number - 1) c.args.number c.in-Begun-Entity.id c.in-Begun-Entity.entity
     ready sound ok (c.restore.ensures.by_one ready.by_one) c.restore.ensures.held))
+
+pub returns-in-Begun-Entity-clause-full : goal.returns-in-Begun-Entity-clause-full
+returns-in-Begun-Entity-clause-full c full =
+    let lacks : LacksRoom (loading_of c.args.self.now.world (Begun c.in-Begun-Entity.field-0-0) (c.args.number - 1)) c.args.self.now.world (Entity c.in-Begun-Entity.id c.in-Begun-Entity.entity) =
+    record { comes = (c.restore.ensures.full full).0; next = _; after = refl; over = (c.restore.ensures.full full).1 } in
+    rw (c.in-Begun-Entity.is-0, c.in-Begun-Entity.is-1) lacks
