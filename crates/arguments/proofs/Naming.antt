@@ -4,7 +4,7 @@ use Rattle.std.specs.List.{after_first, before_first, list_all, position_or_len}
 use Rattle.std.specs.Str.{bytes_eq}
 use Rattle.std.proofs.lemmas.Bool.{and_parts}
 use Rattle.std.proofs.lemmas.Bool.Decides.{nat_tests}
-use Rattle.std.proofs.lemmas.List.{drop_at, length-append, length_push, take_at}
+use Rattle.std.proofs.lemmas.List.{drop_at, length-append, length_push, take_all, take_at}
 use Rattle.std.proofs.lemmas.List.Folds.{list_all-append}
 use Rattle.std.proofs.lemmas.Slice.Eq.{bytes_eq-Decides}
 use Rattle.arguments.specs.declared.table.ValueKind.{ValueKind}
@@ -67,17 +67,26 @@ item_alone name plain =
     let past : nat_lt (position_or_len is_equals_sign name) (length name) ≡ false = grind (arith, nat_tests) in
     ap (λ b. cond b (item (before_first is_equals_sign name) (Some (after_first is_equals_sign name))) (item name None)) past
 
+-- what stands before the sign, and behind it
+pub before_sign : (name value : List ℕ) → is_plain name ≡ true → before_first is_equals_sign (name ++ 61 ∷ value) ≡ name
+before_sign name value plain = ap (λ n. take n (name ++ 61 ∷ value)) (sign_after name value plain) ∙ take_at name (61 ∷ value) (length name) refl
+
+pub after_sign : (name value : List ℕ) → is_plain name ≡ true → after_first is_equals_sign (name ++ 61 ∷ value) ≡ value
+after_sign name value plain =
+    ap (λ n. drop (n + 1) (name ++ 61 ∷ value)) (sign_after name value plain) ∙ ap (drop (length name + 1)) (sym (append_assoc name (61 ∷ []) value))
+    ∙ drop_at (name ++ 61 ∷ []) value (length name + 1) (length_push name 61)
+
+pub before_none : (name : List ℕ) → is_plain name ≡ true → before_first is_equals_sign name ≡ name
+before_none name plain = ap (λ n. take n name) (no_sign name plain) ∙ take_all (length name) name (omega arith)
+
 pub item_joined : (name value : List ℕ) → is_plain name ≡ true → item_of_word (name ++ 61 ∷ value) ≡ item name (Some value)
 item_joined name value plain =
     let word : List ℕ = name ++ 61 ∷ value in
     let at : position_or_len is_equals_sign word ≡ length name = sign_after name value plain in
     let long : length word ≡ length name + length (61 ∷ value) = length-append name (61 ∷ value) in
     let within : nat_lt (position_or_len is_equals_sign word) (length word) ≡ true = grind (arith, nat_tests) in
-    let before : before_first is_equals_sign word ≡ name = ap (λ n. take n word) at ∙ take_at name (61 ∷ value) (length name) refl in
-    let after : after_first is_equals_sign word ≡ value =
-    ap (λ n. drop (n + 1) word) at ∙ ap (drop (length name + 1)) (sym (append_assoc name (61 ∷ []) value)) ∙ drop_at (name ++ 61 ∷ []) value (length name + 1) (length_push name 61) in
     ap (λ b. cond b (item (before_first is_equals_sign word) (Some (after_first is_equals_sign word))) (item word None)) within
-    ∙ ap₂ (λ n v. item n (Some v)) before after
+    ∙ ap₂ (λ n v. item n (Some v)) (before_sign name value plain) (after_sign name value plain)
 
 -- ---- the arguments that follow
 

@@ -16,7 +16,7 @@ use Rattle.arguments.specs.declared.table.Command.{Command}
 use Rattle.arguments.specs.declared.table.Command.TheVariants.{Replay as ToReplay, Drill as ToDrill, Patches as ToPatches, Follow as ToFollow, Split as ToSplit}
 use Rattle.arguments.proofs.Naming.{are_plain, is_plain, item_alone, item_joined, items_apart, items_whole, joined_unknown, kind_plain, same_name}
 
-abbrev IsFit : List Entry → Item → Type 0
+abbrev pub IsFit : List Entry → Item → Type 0
 IsFit table i = fits (kind_in table i.name) i.value ≡ true
 
 -- ---- one item
@@ -115,7 +115,7 @@ negated : (b : Bool) → not b ≡ true → b ≡ false
 negated true is = cc
 negated false is = refl
 
-items_are : (table : List Entry) (items : List Item) → are_items table items ≡ true → Each (IsFit table) items × AreDistinct items
+pub items_are : (table : List Entry) (items : List Item) → are_items table items ≡ true → Each (IsFit table) items × AreDistinct items
 items_are table [] is = (tt, tt)
 items_are table (i ∷ items) is =
     let here = and_parts (fits (kind_in table i.name) i.value) _ is in
@@ -143,7 +143,7 @@ spelled table words items is = by (are_items table (items_of table words)) refl 
         let parts = items_are table items (ap (are_items table) (sym same) ∙ all) in
         record { written = writes.written; are = writes.are; items_are = sym (writes.items ∙ same); fit = parts.0; distinct = parts.1 }
 
-understood_so : (table : List Entry) → are_plain table ≡ true → (words : List (List ℕ)) (items : List Item) → Spell table words items → understood table words ≡ Some items
+pub understood_so : (table : List Entry) → are_plain table ≡ true → (words : List (List ℕ)) (items : List Item) → Spell table words items → understood table words ≡ Some items
 understood_so table plain words items spell =
     let fit : Each (IsFit table) (items_in spell.written) = subst (λ is. Each (IsFit table) is) spell.items_are spell.fit in
     let read : items_of table words ≡ items = ap (items_of table) spell.are ∙ all_read table plain spell.written fit ∙ sym spell.items_are in
@@ -171,7 +171,7 @@ name_is word (first ∷ list) command is = by (bytes_eq word (name_of first)) re
     by true same rest is = let it : first ≡ command = cc in same_name word (name_of first) same ∙ ap name_of it
     by false other rest is = rest is
 
-named : (command : Command) → command_named (name_of command) ≡ Some command
+pub named : (command : Command) → command_named (name_of command) ≡ Some command
 named ToReplay = refl
 named ToDrill = refl
 named ToPatches = refl
@@ -179,7 +179,7 @@ named ToFollow = refl
 named ToSplit = refl
 
 -- no table has a name with `=`
-plain_tables : (command : Command) → are_plain (table_of command) ≡ true
+pub plain_tables : (command : Command) → are_plain (table_of command) ≡ true
 plain_tables ToReplay = refl
 plain_tables ToDrill = refl
 plain_tables ToPatches = refl

@@ -1,5 +1,6 @@
 pub mod Grammar
 pub mod Items
+pub mod Matching
 pub mod Numbers
 pub mod Options
 pub mod Plan

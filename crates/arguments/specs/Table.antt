@@ -39,12 +39,12 @@ replay_table =
     ∷ entry (codes "--max-bytes") (Number 0 1099511627776)
     ∷ entry (codes "--max-terms") (Number 1 4294967295)
     ∷ entry (codes "--horizon") (Number 0 9223372036854775807)
-    ∷ entry (codes "--export") Flag
-    ∷ entry (codes "--state") Flag
-    ∷ entry (codes "--side") Flag
     ∷ entry (codes "--save") Text
     ∷ entry (codes "--every") (Number 1 4294967295)
     ∷ entry (codes "--resume") Text
+    ∷ entry (codes "--export") Flag
+    ∷ entry (codes "--state") Flag
+    ∷ entry (codes "--side") Flag
     ∷ []
 
 -- the items of a drill
@@ -70,14 +70,14 @@ follow_table = entry (codes "--max-bytes") (Number 0 1099511627776) ∷ entry (c
 -- the items of a split
 abbrev pub split_table : List Entry
 split_table =
-    entry (codes "--route") Text
-    ∷ entry (codes "--from") Text
+    entry (codes "--from") Text
     ∷ entry (codes "--max-bytes") (Number 0 1099511627776)
     ∷ entry (codes "--max-terms") (Number 1 4294967295)
     ∷ entry (codes "--horizon") (Number 0 9223372036854775807)
     ∷ entry (codes "--save") Text
     ∷ entry (codes "--every") (Number 1 4294967295)
     ∷ entry (codes "--resume") Text
+    ∷ entry (codes "--route") Text
     ∷ []
 
 -- the items of a command

@@ -1,12 +1,17 @@
 // The items that the arguments after a command are.
 
-ghost use Rattle.std.specs.Prelude.{◌≡◌, ◌≤◌, ◌∷◌, length, map, option_map, string_bytes, IfSome};
+ghost use Rattle.std.specs.Prelude.{◌≡◌, ◌≤◌, [], ◌∷◌, ◌++◌, true, length, map, option_map, string_bytes, IfOk, IfSome};
 ghost use Rattle.arguments.specs.Table.{IsInRange, fits, is_of_kind, is_value, kind_in, table_of};
 ghost use Rattle.arguments.specs.Items.{are_items, is_there, item_named, item_of_word, items_of, number_in, value_in};
 ghost use Rattle.arguments.specs.Plan.{understood};
+ghost use Rattle.arguments.specs.{Grammar.words_of_item, Matching.AreItemWords, Matching.joined_words};
 
+use crate::matching::matches;
 use crate::numbers::read_number;
 use crate::table::{Command, ValueKind, has_value};
+use clap::ArgMatches;
+use rdf_term::OutOfMemory;
+use std::alloc::{AllocError, Global};
 use std::marker::Model;
 
 /// An item as the arguments have it.
@@ -25,23 +30,30 @@ impl<'a> Model for Item<'a> {
     ghost view = { λ i. record { name = i.name.now; value = option_map (λ v. v.now) i.value } };
 }
 
+/// Where the items are: in the arguments, or in what clap matched.
+#[derive(Drop)]
+pub enum Values<'a> {
+    /// In the arguments.
+    Written(&'a [String]),
+    /// In what clap matched.
+    Matched(ArgMatches<'a>),
+}
+
 /// The arguments after a command, which are items of its table, each at most once and each with a value that fits.
 #[derive(Drop)]
 pub struct Request<'a> {
     command: Command,
-    words: &'a [String],
+    values: Values<'a>,
 }
 
 impl<'a> Model for Request<'a> {
-    ghost use Rattle.std.specs.Prelude.{map, string_bytes};
-    ghost use Rattle.arguments.specs.{Items.Request, Items.items_of, Table.table_of};
+    ghost use Rattle.arguments.specs.{Items.Request, Matching.AreReadable, Matching.items_in};
 
     ghost Value = { Request };
 
-    ghost view = { λ r. record {
-      command = r.command;
-      items = items_of (table_of r.command) (map (λ w. string_bytes w) r.words.now);
-    } };
+    ghost view = { λ r. record { command = r.command; items = items_in r.command r.values } };
+
+    ghost invariant = { λ r. AreReadable r.command r.values };
 }
 
 impl<'a> Request<'a> {
@@ -51,10 +63,24 @@ impl<'a> Request<'a> {
         ensures command { IfSome result (λ r. r.command ≡ command) }
     {
         if are_items(command, words) {
-            Some(Request { command, words })
+            let values = Values::Written(words);
+            Some(Request { command, values })
         } else {
             None
         }
+    }
+
+    /// The request that clap matches in these words: the name of a command, and one word for each item.
+    pub fn matched(
+        alloc: Global,
+        command: Command,
+        words: &'a [String],
+    ) -> Result<Request<'a>, OutOfMemory>
+        requires { AreItemWords command (map (λ w. string_bytes w) words.now) }
+        ensures { (are : AreItemWords command (map (λ w. string_bytes w) words.now)) → IfOk result (λ r. (r.command ≡ command) × (r.items ≡ are.items)) }
+    {
+        let values = Values::Matched(matches(alloc, command, words)?);
+        Ok(Request { command, values })
     }
 
     /// The command.
@@ -68,8 +94,16 @@ impl<'a> Request<'a> {
     pub fn text(&self, name: &str) -> Option<&'a str>
         ensures { option_map (λ v. v.now) result ≡ value_in name.now self.now.items }
     {
-        let item = find_item(self.command, self.words, name)?;
-        item.value
+        match &self.values {
+            Values::Written(words) => find_item(self.command, words, name)?.value,
+            Values::Matched(matches) => {
+                if has_value(self.command.kind_of(name)) {
+                    matches.get_str(name)
+                } else {
+                    None
+                }
+            }
+        }
     }
 
     /// The number that the item with this name has, if it is there.
@@ -88,7 +122,45 @@ impl<'a> Request<'a> {
     pub fn has(&self, name: &str) -> bool
         ensures { result ≡ is_there name.now self.now.items }
     {
-        find_item(self.command, self.words, name).is_some()
+        match &self.values {
+            Values::Written(words) => find_item(self.command, words, name).is_some(),
+            Values::Matched(matches) => match self.command.kind_of(name) {
+                None => false,
+                Some(ValueKind::Flag) => matches.get_flag(name),
+                Some(ValueKind::Text) => matches.get_str(name).is_some(),
+                Some(ValueKind::Number(_, _)) => matches.get_str(name).is_some(),
+            },
+        }
+    }
+}
+
+/// Adds one word for each item.
+pub fn push_items(
+    alloc: Global,
+    command: Command,
+    words: &[String],
+    joined: &mut Vec<String>,
+) -> Result<(), OutOfMemory>
+    ensures { IfOk result (λ _. map (λ w. string_bytes w) joined.new.items
+        ≡ map (λ w. string_bytes w) joined.old.items ++ joined_words (items_of (table_of command) (map (λ w. string_bytes w) words.now))) }
+{
+    let mut rest = words;
+    while let Some((word, after)) = rest.split_first() {
+        let (item, left) = next_item(command, word.as_str(), after);
+        joined.push(joined_word(alloc, &item)?)?;
+        rest = left;
+    }
+    Ok(())
+}
+
+// The one word of an item.
+fn joined_word(alloc: Global, item: &Item<'_>) -> Result<String, AllocError>
+    ensures { IfOk result (λ word. words_of_item item.now.name item.now.value true ≡ string_bytes word ∷ []) }
+{
+    let name = item.name;
+    match item.value {
+        Some(value) => format!(in alloc; "{name}={value}"),
+        None => String::from_str(alloc, name),
     }
 }
 

@@ -87,7 +87,7 @@ impl<'a> ReplayOptions<'a> {
         }
     }
 
-    /// The most bytes of the input.
+    /// The maximum size of the input in bytes.
     pub fn max_bytes(&self) -> u64
         ensures value { result ≡ max_bytes_of self.now }
         ensures bounded { result ≤ 2 ^ 40 }
@@ -96,7 +96,7 @@ impl<'a> ReplayOptions<'a> {
         self.max_bytes.unwrap_or(MAX_BYTES)
     }
 
-    /// For how many terms there is room.
+    /// The limit: the maximum number of distinct terms in the store.
     pub fn max_terms(&self) -> u32
         ensures { result ≡ max_terms_of self.now }
     {
@@ -131,14 +131,14 @@ impl<'a> ReplayOptions<'a> {
         self.side
     }
 
-    /// The file to which the world is saved at the end of the input, if it is.
+    /// The file in which the world is saved at the end of the input, if it is saved.
     pub fn save(&self) -> Option<&'a str>
         ensures { option_map (λ p. p.now) result ≡ self.now.save }
     {
         self.save
     }
 
-    /// After how many watermark lines the snapshot is written each time, if it is written on the way.
+    /// N, if a snapshot is also written after every N-th watermark line.
     pub fn every(&self) -> Option<u32>
         ensures value { result ≡ self.now.every }
         ensures within { IsItemInRange (codes "--every") result }
@@ -146,14 +146,14 @@ impl<'a> ReplayOptions<'a> {
         self.every
     }
 
-    /// The file of the snapshot from which the run goes on, if it goes on from one.
+    /// The file of the snapshot that the run continues from, if it does.
     pub fn resume(&self) -> Option<&'a str>
         ensures { option_map (λ p. p.now) result ≡ self.now.resume }
     {
         self.resume
     }
 
-    /// Whether the end of the input is the end of the deliveries: where the world is saved, more may come in a later run.
+    /// Whether the end of the input is the end of the deliveries: if the world is saved, more may come in a later run.
     pub fn closes(&self) -> bool
         ensures { result ≡ closes self.now }
     {
@@ -201,7 +201,7 @@ impl FollowOptions {
         }
     }
 
-    /// The most bytes of the input.
+    /// The maximum size of the input in bytes.
     pub fn max_bytes(&self) -> u64
         ensures value { result ≡ follow_max_bytes_of self.now }
         ensures bounded { result ≤ 2 ^ 40 }
@@ -233,7 +233,7 @@ impl<'a> Model for SplitOptions<'a> {
 }
 
 impl<'a> SplitOptions<'a> {
-    /// What the items after `split` ask for, where this is the text of the routes.
+    /// What the items after `split` ask for, with this text of the routes.
     pub fn of_items(items: &Request<'a>, route: &'a str) -> SplitOptions<'a>
         requires { items.now.command ≡ Split }
         ensures { result ≡ split_choices_of items.now.items route.now }

@@ -1,7 +1,8 @@
 // What the arguments ask for.
 
-ghost use Rattle.std.specs.Prelude.{◌≡◌, map, string_bytes, IfSome};
-ghost use Rattle.arguments.specs.Plan.{IsSized, asked, asked_by, has_file, plan_of};
+ghost use Rattle.std.specs.Prelude.{◌≡◌, None, map, option_and_then, string_bytes, IfSome, MatchOption};
+ghost use Rattle.arguments.specs.Plan.{IsSized, asked, asked_by, has_file, plan_of, understood};
+ghost use Rattle.arguments.specs.Table.{table_of};
 
 use crate::items::Request;
 use crate::options::{FollowOptions, ReplayOptions, SplitOptions};
@@ -14,9 +15,9 @@ pub enum Plan<'a> {
     Replay(ReplayOptions<'a>),
     /// To replay deliveries and pages that are made from this number, and to print a summary.
     Drill(u32),
-    /// To replay the event lines of the input, and to tell how the stored triples change.
+    /// To replay the event lines of the input, and to print each change of the stored triples as a record.
     Patches(ReplayOptions<'a>),
-    /// To rebuild a producer's triples from records of their changes.
+    /// To build a producer's triples from records of their changes.
     Follow(FollowOptions),
     /// To replay the event lines of the input into several graphs.
     Split(SplitOptions<'a>),
@@ -28,14 +29,24 @@ pub fn read_plan<'a>(words: &'a [String]) -> Option<Plan<'a>>
     ensures value { result ≡ plan_of (map (λ w. string_bytes w) words.now) }
     ensures sized { IfSome result IsSized }
 {
-    let (word, after) = words.split_first()?;
-    let command = Command::named(word.as_str())?;
+    let (command, after) = split_command(words)?;
     let request = Request::read(command, after)?;
     asked(&request)
 }
 
-// What a command and its items ask for, where a world that is saved on the way has a file to be saved to.
-fn asked<'a>(request: &Request<'a>) -> Option<Plan<'a>>
+/// The command that the first argument names, and the arguments after it.
+pub fn split_command(words: &[String]) -> Option<(Command, &[String])>
+    ensures { MatchOption result (plan_of (map (λ w. string_bytes w) words.now) ≡ None)
+        (λ parts. plan_of (map (λ w. string_bytes w) words.now)
+        ≡ option_and_then (asked parts.0) (understood (table_of parts.0) (map (λ w. string_bytes w) parts.1.now))) }
+{
+    let (word, after) = words.split_first()?;
+    let command = Command::named(word.as_str())?;
+    Some((command, after))
+}
+
+/// What a command and its items ask for, where a world that is saved on the way has a file to be saved to.
+pub fn asked<'a>(request: &Request<'a>) -> Option<Plan<'a>>
     ensures value { result ≡ asked request.now.command request.now.items }
     ensures sized { IfSome result IsSized }
 {

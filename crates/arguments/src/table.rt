@@ -1,7 +1,7 @@
 // The commands, and the table of each: the names of its items, with the kinds of their values.
 
 ghost use Rattle.std.specs.Prelude.{◌≡◌};
-ghost use Rattle.arguments.specs.Table.{command_named, drill_table, follow_table, has_value, kind_in, patches_table, replay_table, split_table, table_of};
+ghost use Rattle.arguments.specs.Table.{command_named, drill_table, follow_table, has_value, kind_in, name_of, patches_table, replay_table, split_table, table_of};
 
 /// What an item has as its value.
 #[derive(Clone, Copy)]
@@ -21,9 +21,9 @@ pub enum Command {
     Replay,
     /// To replay deliveries and pages that are made from a number.
     Drill,
-    /// To replay the event lines of the input, and to tell how the stored triples change.
+    /// To replay the event lines of the input, and to print each change of the stored triples as a record.
     Patches,
-    /// To rebuild a producer's triples from records of their changes.
+    /// To build a producer's triples from records of their changes.
     Follow,
     /// To replay the event lines of the input into several graphs.
     Split,
@@ -41,6 +41,19 @@ impl Command {
             "follow" => Some(Command::Follow),
             "split" => Some(Command::Split),
             _ => None,
+        }
+    }
+
+    /// The name of the command.
+    pub fn name(self) -> &'static str
+        ensures { result.now ≡ name_of self }
+    {
+        match self {
+            Command::Replay => "replay",
+            Command::Drill => "drill",
+            Command::Patches => "patches",
+            Command::Follow => "follow",
+            Command::Split => "split",
         }
     }
 

@@ -16,7 +16,7 @@ use Rattle.replay_model.proofs.Fetching.{failed-applying, failed_by, missing-app
 use Rattle.replay_model.proofs.ToldContents.{unfit_there}
 use Rattle.fetched_pages.specs.{Reply.IsReply, Meaning.meaning}
 use Rattle.world.specs.{Applying.Applies, Applying.IsShown, Applying.calls_after, Applying.outcome_of_reply, WorldState.WorldState}
-use Rattle.world.specs.{declared.applied.Applied.Applied, declared.applied.Outcome.Outcome}
+use Rattle.world.specs.{declared.applied.AppliedEvent.AppliedEvent, declared.applied.Outcome.Outcome}
 use Rattle.world.specs.declared.applied.Outcome.TheVariants.{Same, Dropped}
 use Rattle.text_output.specs.{declared.write.Unwritten.Unwritten, Printing.Output}
 use Rattle.patch_stream.specs.Stream.{Step, step, steps_due}
@@ -104,7 +104,7 @@ rose_twice named m n first before now rose then_rose more = λ below.
     let later : now < 2 ^ 64 - 1 = omega arith in
     omega (arith, rose earlier, then_rose later)
 
-counted_applying : (contents : Option Contents) (folder : List ℕ) (start before now : SourceCounts) (first : List Entry) (made : ℕ) (old new : ReplayState) (applied : Applied) → Applies contents folder old new applied →
+counted_applying : (contents : Option Contents) (folder : List ℕ) (start before now : SourceCounts) (first : List Entry) (made : ℕ) (old new : ReplayState) (applied : AppliedEvent) → Applies contents folder old new applied →
     Rises applied.outcome before now → HasCounted start before first made old.played.side → HasCounted start now first (made + cond (is_fetching old applied.event) 1 0) new.played.side
 counted_applying contents folder start before now first made old new applied a rises so_far =
     let e : Event = applied.event in
@@ -148,7 +148,7 @@ pub record LeadsOn (environment : Environment) (course : Course) (reported : ℕ
 
 -- an application
 pub record IsApplied (contents : Option Contents) (folder : List ℕ) (limit : ℕ) (before now : Stage) : Type 0 where
-  pub applied : Applied
+  pub applied : AppliedEvent
   pub applies : Applies contents folder before.world now.world applied
   pub rises : Rises applied.outcome before.counts now.counts
   pub keeps : KeepsVersion before.mapped now.mapped before.world.played.records now.world.played.records

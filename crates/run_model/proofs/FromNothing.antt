@@ -12,7 +12,7 @@ use Rattle.replay_parts.proofs.GoingOn.{checkpoint-advanced, checkpoint-append}
 use Rattle.graph_routes.specs.declared.routes.Route.{Route}
 use Rattle.fetched_pages.specs.Meaning.{meaning}
 use Rattle.patch_stream.specs.Stream.{Step, steps_applied, steps_due, steps_of_play, steps_to_end, stream_text}
-use Rattle.patch_stream.proofs.Chains.{steps-push}
+use Rattle.patch_stream.proofs.Streams.{steps-push}
 use Rattle.snapshot.specs.declared.counts.Counts.{Counts}
 use Rattle.run_model.specs.Course.{along, fetches_of_delivery, state_along, steps_of_delivery, stream_text_from, version_since, answer_by, answer_of_delivery, said_by, course_ended, course_to_end, led_to, version_at}
 use Rattle.run_model.specs.{Moment.Beginning, Moment.IsFirst, Moment.horizon_at, Moment.standing, OneRun.said_from_start}

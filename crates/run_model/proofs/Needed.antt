@@ -20,7 +20,7 @@ use Rattle.replay_model.specs.{ReplayState.ReplayState, ReplayState.after_applyi
 use Rattle.replay_model.specs.Versions.{all_by, meaning_by, with_version}
 use Rattle.replay_model.proofs.{Explaining.next_by, RecordOf.record-after, ToldContents.Each-append, Versions.union-all}
 use Rattle.triple_store.specs.Room.{distinct, terms_of}
-use Rattle.world.specs.{declared.applied.Applied.Applied, declared.applied.Outcome.Outcome}
+use Rattle.world.specs.{declared.applied.AppliedEvent.AppliedEvent, declared.applied.Outcome.Outcome}
 use Rattle.world.specs.declared.applied.Outcome.TheVariants.{Same, Stored, Dropped}
 use Rattle.world.specs.{Applying.Applies, Applying.outcome_of_reply, Roomed.room_with}
 use Rattle.world.specs.WorldState.{WorldState, first_of, next_stale, remapped, stale, stale_by, triples_anew, triples_of, with_version_of}
@@ -159,7 +159,7 @@ by_one : (limit : ℕ) (version : MappingVersion) (records : Records) (triples :
 by_one limit version records triples = subst (λ ts. distinct (flat_map terms_of (ts ++ triples)) ≤ limit) (union-all meaning version records triple_cmp)
 
 -- a due event that was applied had room
-pub applied_has_room : (contents : Option Contents) (folder : List ℕ) (limit : ℕ) (old : WorldState) (new : ReplayState) (applied : Applied) (a : Applies contents folder old.replay new applied) →
+pub applied_has_room : (contents : Option Contents) (folder : List ℕ) (limit : ℕ) (old : WorldState) (new : ReplayState) (applied : AppliedEvent) (a : Applies contents folder old.replay new applied) →
     (applied.outcome ≡ Stored → room_with (meaning_by meaning old.by_two) old.replay.played.records (triples_held (meaning old.mapping) applied.event.entity (record_of new.played.records applied.event.entity).held) ≤ limit) →
     (version : MappingVersion) → mapped_in old ≡ mapped_by version old.replay.played.records →
     HaveRoom limit (cond (is_fetching old.replay applied.event) (needed_for version old.replay.played.records applied.event.entity (revision_wanted old.replay applied.event) a.reply) [])

@@ -10,7 +10,7 @@ use Rattle.replay_model.specs.Versions.{all_by, is_holder, meaning_by}
 use Rattle.replay_model.proofs.Versions.{union-all}
 use Rattle.world.specs.{Applying.Applies, Roomed.room_with}
 use Rattle.world.specs.WorldState.{AreHolders, WorldState, first_of, next_stale, remapped, by_two_after, stale, triples_anew, triples_of}
-use Rattle.world.specs.declared.applied.Applied.{Applied}
+use Rattle.world.specs.declared.applied.AppliedEvent.{AppliedEvent}
 use Rattle.fetched_pages.specs.Meaning.{meaning}
 use Rattle.world.proofs.OneVersion.{applied_by_one}
 use Rattle.run_model.specs.Remapping.{HaveRoom, HaveRoomBefore, needed_anew, needed_by_pages, IsFullOfStale, KeepsVersion, Mapped, held_triples, mapped_by, mapped_in, remapped_in, remapped_some}
@@ -21,7 +21,7 @@ pub all_held_by : (version : MappingVersion) (mapped : Mapped) (records : Record
 all_held_by version mapped records is = ap (λ (m : Mapped). held_triples m records) is ∙ union-all meaning version records triple_cmp
 
 -- after an application every page is mapped by the version by which all were
-pub applies-versions : (contents : Option Contents) (folder : List ℕ) (old new : WorldState) (applied : Applied) → Applies contents folder old.replay new.replay applied → new.mapping ≡ old.mapping →
+pub applies-versions : (contents : Option Contents) (folder : List ℕ) (old new : WorldState) (applied : AppliedEvent) → Applies contents folder old.replay new.replay applied → new.mapping ≡ old.mapping →
     new.by_two ≡ by_two_after applied.outcome old.mapping applied.event.entity old.by_two → KeepsVersion (mapped_in old) (mapped_in new) old.replay.played.records new.replay.played.records
 applies-versions contents folder old new applied a same by_two version is =
     let records : Records = old.replay.played.records in

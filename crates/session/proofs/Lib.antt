@@ -1,3 +1,4 @@
 mod DrillPlaying
 mod Drills
 mod Plans
+mod Starved

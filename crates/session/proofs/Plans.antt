@@ -1,8 +1,7 @@
 -- What a replay, a drill and a follower leave, by the plan that the arguments are.
-use Rattle.std.proofs.Common.{◌≡◌, subst, ℕ, Some, IfSome}
+use Rattle.std.proofs.Common.{◌≡◌, refl, subst, true, is_some, Option, None, Some, IfSome}
 use Rattle.following.specs.{Following.FollowMoment, Reading.TakesLinesByNeed}
 use Rattle.arguments.specs.{Options.FollowChoices, Options.follow_max_bytes_of, declared.plan.Plan.Plan}
-use Rattle.arguments.specs.declared.plan.Plan.TheVariants.{Drill, Follow}
 use Rattle.run_model.specs.{declared.status.Status.Status, declared.stop.Stop.Stop, Stop.stop_of}
 use Rattle.session.specs.Plans.{FollowEnding, FollowStopped}
 
@@ -12,15 +11,10 @@ for_plan P read plan same p =
     let is : read ≡ plan = cc in
     subst P is p
 
-pub for_size : (P : ℕ → Type 0) (read size : ℕ) → Some (Drill read) ≡ Some (Drill size) → P read → P size
-for_size P read size same p =
-    let is : read ≡ size = cc in
-    subst P is p
-
-pub for_follow : (P : FollowChoices → Type 0) (read choices : FollowChoices) → Some (Follow read) ≡ Some (Follow choices) → P read → P choices
-for_follow P read choices same p =
-    let is : read ≡ choices = cc in
-    subst P is p
+-- a plan that is there
+pub plan_there : {P : Type 0} (o : Option Plan) → is_some o ≡ true → ((plan : Plan) → o ≡ Some plan → P) → P
+plan_there None never gives = cc
+plan_there (Some plan) there gives = gives plan refl
 
 -- a follower that stopped
 pub follow_stopped : (status : Status) (stop : Stop) (choices : FollowChoices) (before now : FollowMoment) → stop_of status ≡ Some stop → FollowStopped stop choices before now →

@@ -1,25 +1,34 @@
 -- What the arguments ask for: the run of a plan, the most terms that it leaves room for, and whether it may save; and what a drill and a
 -- follower leave.
-use Rattle.std.specs.Prelude.{◌≡◌, ◌⊎◌, ℕ, false, List, None, Some, Option, IfSome, MatchOption}
-use Rattle.revisions.specs.Revisions.{Contents}
+use Rattle.std.specs.Prelude.{◌≡◌, ◌⊎◌, ℕ, false, List, None, Some, Option, IfSome, IsSome, MatchOption}
+use Rattle.revisions.specs.{declared.revisions.Revisions.Ghosts as RevisionsOf, Revisions.Contents}
 use Rattle.graph_routes.specs.{declared.routes.Route.Route, Routes.AreRoutesIn}
 use Rattle.arguments.specs.Options.{SplitChoices, max_terms_of, FollowChoices, follow_max_bytes_of}
 use Rattle.arguments.specs.{Plan.plan_of, declared.plan.Plan.Plan}
 use Rattle.arguments.specs.declared.plan.Plan.TheVariants.{Replay, Drill, Patches, Follow, Split}
 use Rattle.run_model.specs.declared.report.Report.TheVariants.{Answers, Changes}
-use Rattle.run_model.specs.{declared.status.Status.Status, Moment.Run, Moment.run_of, Moment.Stage}
+use Rattle.run_model.specs.{declared.ports.Ports.Ports, declared.status.Status.Status, Remapping.HoldsWithin, Resuming.RunEnding}
+use Rattle.run_model.specs.Moment.{HaveGoneOn, Run, Stage, moment, run_of, stage, world_at_start}
+use Rattle.checkpoint.specs.declared.snapshots.Snapshots.{Ghosts as SnapshotsOf}
+use Rattle.world.specs.WorldState.{WorldState}
 use Rattle.run_model.specs.Stop.{MayKeep, stop_of, stop_of_follow}
 use Rattle.run_model.specs.declared.status.Status.TheVariants.{Ok as Ended, BadWords, BadLine, ReadFault, WriteFault, TooLong, StoreFull, OutOfMemory, BadSnapshot}
 use Rattle.run_model.specs.declared.stop.Stop.{Stop}
 use Rattle.std.specs.List.{flat_map}
-use Rattle.wq_io.specs.Streams.{after_known}
-use Rattle.replay_model.specs.ReplayState.{ReplayState}
+use Rattle.wq_io.specs.{Streams.after_known, declared.sink.Sink.Ghosts as SinkOf, declared.source.Source.Ghosts as SourceOf}
+use Rattle.replay_model.specs.ReplayState.{ReplayState, nothing_delivered, nothing_delivered_within}
 use Rattle.text_output.specs.declared.write.Unwritten.{Unwritten}
 use Rattle.text_output.specs.declared.write.Unwritten.TheVariants.{WriteFault as NotWritten, OutOfMemory as UnwrittenOutOfMemory}
 use Rattle.text_output.specs.Printing.{IsCutShort, Output}
-use Rattle.drill_replay.specs.{Playing.HasBegun, Summary.drilled, Summary.summary_lines, Summary.summary_of}
-use Rattle.following.specs.{declared.stop.FollowStop.FollowStop, Following.Ending, Following.FollowMoment, Following.StoppedFollowing}
+use Rattle.drill_replay.specs.{Playing.HasBegun, Playing.IsByFirst, Summary.drilled, Summary.summary_lines, Summary.summary_of}
+use Rattle.following.specs.{declared.stop.FollowStop.FollowStop, Following.Ending, Following.FollowMoment, Following.StoppedFollowing, Following.follow_moment}
 use Rattle.following.specs.Reading.{TakesLinesByNeed}
+
+-- a plan is a split by a text that has no routes
+pub record IsWithoutRoutes (plan : Plan) : Type 0 where
+  pub choices : SplitChoices
+  pub is : plan ≡ Split choices
+  pub none : (routes : List Route) → AreRoutesIn choices.route routes → ⊥
 
 -- the arguments ask for a split by a text that has no routes
 pub record HasNoRoutes (words : List (List ℕ)) : Type 0 where
@@ -111,3 +120,30 @@ pub record FollowStopped (stop : Stop) (choices : FollowChoices) (before now : F
 pub record FollowEnding (status : Status) (choices : FollowChoices) (before now : FollowMoment) : Type 0 where
   pub outcome : MatchOption (stop_of status) (Ending choices before now) (λ stop. FollowStopped stop choices before now)
   pub taken : IfSome before.input.left (λ bytes. TakesLinesByNeed (follow_max_bytes_of choices) bytes now.input.left)
+
+-- ---- what the run of a plan leaves
+
+-- the run of a plan: how it ends, what it leaves of its ports, and the world that it gives back
+pub record PlanEnding {S R K F : Type 0} (events : SourceOf S) (source : RevisionsOf R) (sink : SinkOf K) (file : SnapshotsOf F) (plan : Plan) (status : Status) (old new : Ports S R K F) (world now : WorldState) : Type 0 where
+  -- where it is refused, it is a split by a text that has no routes, and nothing was done
+  pub refused : status ≡ BadWords → IsWithoutRoutes plan × (new ≡ old) × (now ≡ world)
+  -- such a split does nothing, but memory may be refused before that is known
+  pub without : IsWithoutRoutes plan → ((status ≡ BadWords) ⊎ (status ≡ OutOfMemory)) × (new ≡ old) × (now.replay ≡ nothing_delivered_within now.replay.buffer.horizon)
+  pub replay : (run : Run) → IsRunOf plan (source.contents old.revisions) run → RunEnding (stop_of status) run (moment events source sink file old world) (moment events source sink file new now)
+  pub drill : (size : ℕ) → plan ≡ Drill size → DrillEnding status size (stage source sink old.revisions old.out world) (stage source sink new.revisions new.out now) × IsByFirst now × (new ≡ record old { out = new.out })
+  pub follow : (choices : FollowChoices) → plan ≡ Follow choices →
+      FollowEnding status choices (follow_moment events sink old.events old.out) (follow_moment events sink new.events new.out)
+      × (new ≡ record old { events = new.events; out = new.out }) × (now ≡ record world { limit = 20000000 })
+  pub limit : (status ≡ BadWords) ⊎ ((now.limit ≡ limit_of_plan plan) × HoldsWithin (limit_of_plan plan) now)
+  pub unsaved : MaySave plan status ⊎ (new.snapshot ≡ old.snapshot)
+  pub further : HaveGoneOn events source sink file old new
+
+-- the world of a plan that doesn't begin: that at the start of a first run, or as it was, with the limit of the plan
+pub record IsUnbegun (plan : Plan) (world now : WorldState) : Type 0 where
+  pub begun : (contents : Option Contents) (run : Run) → IsRunOf plan contents run → run.choices.resume ≡ None → now ≡ world_at_start run.choices
+  pub resumed : (contents : Option Contents) (run : Run) → IsRunOf plan contents run → IsSome run.choices.resume → now ≡ record world { limit = max_terms_of run.choices }
+  pub nothing : now.replay ≡ nothing_delivered_within now.replay.buffer.horizon
+  pub drill : (size : ℕ) → plan ≡ Drill size → IsByFirst now × (now.replay ≡ nothing_delivered)
+  pub follow : (choices : FollowChoices) → plan ≡ Follow choices → now ≡ record world { limit = 20000000 }
+  pub limit : now.limit ≡ limit_of_plan plan
+  pub held : HoldsWithin (limit_of_plan plan) now

@@ -18,7 +18,7 @@ use revisions::Revisions;
 use run_model::{Halt, Stop};
 use splitting::{follow_application, routes_of};
 use triple_store::StoreFault;
-use world::{Application, WorldFault};
+use world::{AppliedStep, WorldFault};
 use wq_io::Sink;
 
 // What taking a delivery gave: what its event was, if it is one, and how many answers or records are written then.
@@ -140,7 +140,7 @@ fn apply_due<R: Revisions, K: Sink>(
             routes_of(&replay.graphs),
         ) {
             Ok(
-                Application {
+                AppliedStep {
                     applied,
                     change,
                     routed,

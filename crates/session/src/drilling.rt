@@ -32,7 +32,7 @@ pub fn drill<K: Sink>(alloc: Global, size: u32, out: &mut K, world: World) -> (S
 {
     let mut world = world;
     begin_by_first(&mut world);
-    world.set_room(LIMIT);
+    world.set_limit(LIMIT);
     let mut replay = Replay::of_world(world);
     let drilled = drill_and_print(alloc, size, out, &mut replay);
     let world = replay.into_world();

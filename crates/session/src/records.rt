@@ -37,7 +37,7 @@ pub fn follow_records<S: Source, R: Revisions, K: Sink, F: Snapshots>(
     ensures further { HaveGoneOn S.Source R.Revisions K.Sink F.Snapshots ports.old ports.new }
 {
     let mut world = world;
-    world.set_room(LIMIT);
+    world.set_limit(LIMIT);
     match follow(alloc, keys, options, &mut ports.events, &mut ports.out) {
         Ok(()) => (Status::Ok, world),
         Err(why) => (Stop::from(why).status(), world),

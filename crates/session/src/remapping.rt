@@ -14,7 +14,7 @@ use entity_model::MappingVersion;
 use run_model::Halt;
 use splitting::follow_remapping;
 use triple_store::StoreFault;
-use world::{Remapping, World, WorldFault};
+use world::{RemappedStep, World, WorldFault};
 use wq_io::Sink;
 
 // Puts the first version of the mapping in force in a world to which nothing was delivered, so that it holds no page that is mapped by
@@ -54,7 +54,7 @@ pub fn take_mapping<K: Sink>(
         match replay.world.remap_next_with(context.report.telling()) {
             Ok(
                 Some(
-                    Remapping {
+                    RemappedStep {
                         entity,
                         change,
                         triples,

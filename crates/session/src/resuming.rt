@@ -41,7 +41,7 @@ pub fn prepare(options: &ReplayOptions<'_>, world: World) -> World
             world
         }
         Some(_) => {
-            world.set_room(options.max_terms());
+            world.set_limit(options.max_terms());
             world
         }
     }
@@ -54,7 +54,7 @@ fn begin(options: &ReplayOptions<'_>, world: &mut World)
 {
     begin_by_first(world);
     set_horizon(options, world);
-    world.set_room(options.max_terms());
+    world.set_limit(options.max_terms());
 }
 
 // Sets the horizon that is asked for, if one is.

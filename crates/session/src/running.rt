@@ -1,24 +1,21 @@
 // The top call.
 
-ghost use Rattle.std.specs.Prelude.{◌≡◌, ◌⊎◌, ℕ, None, Some, map, string_bytes};
+ghost use Rattle.std.specs.Prelude.{◌≡◌, ◌⊎◌, ℕ, None, Some, IsSome, map, string_bytes};
 ghost use Rattle.replay_model.specs.ReplayState.{nothing_delivered, nothing_delivered_within};
 ghost use Rattle.drill_replay.specs.Playing.{IsByFirst};
 ghost use Rattle.run_model.specs.{Moment.HaveGoneOn, Resuming.RunEnding, Moment.Run, Moment.moment, Moment.stage, Remapping.HoldsWithin};
 ghost use Rattle.run_model.specs.Stop.{stop_of};
-ghost use Rattle.session.specs.Plans.{DrillEnding, FollowEnding, IsNotUnderstood, IsRunOf, MaySave, limit_of_plan};
+ghost use Rattle.session.specs.Plans.{DrillEnding, FollowEnding, IsNotUnderstood, IsRunOf, MaySave, PlanEnding, limit_of_plan};
 ghost use Rattle.following.specs.Following.{follow_moment};
 ghost use Rattle.arguments.specs.{Options.FollowChoices, Plan.plan_of, declared.plan.Plan.Plan as ThePlan};
 ghost use Rattle.arguments.specs.declared.plan.Plan.TheVariants.{Drill, Follow};
 
-use crate::drilling::drill;
-use crate::records::follow_records;
-use crate::replaying::run_replay;
-use crate::split::split;
-use crate::task::Task;
-use arguments::{Plan, read_plan};
+use crate::commands::{run_plan, unbegun};
+use arguments::{ItemWords, read_plan};
 use checkpoint::Snapshots;
+use rdf_term::OutOfMemory;
 use revisions::Revisions;
-use run_model::{Ports, Report, Status};
+use run_model::{Ports, Status};
 use std::alloc::Global;
 use std::hash::RandomState;
 use world::World;
@@ -28,23 +25,23 @@ use wq_io::{Sink, Source};
 /// pages when a line changes the mapping, and at the end prints the sections that the options ask for. A drill makes deliveries and pages
 /// from its size, replays them, and prints its summary.
 ///
-/// `patches` replays the same lines and writes a record for each applied event and each remapped page that changes the stored triples, in
-/// place of answers and sections. It passes over questions.
+/// `patches` replays the same lines and, in place of answers and sections, writes a record for each applied event and each remapped page
+/// that changes the stored triples. It skips questions.
 ///
-/// With `--resume` the replay goes on from the world of the snapshot, and the numbers of answers and records go on from its counts.
+/// With `--resume` the replay continues from the world of the snapshot, and numbers answers and records on from its counts.
 ///
-/// With `--save` the end of the input isn't that of the deliveries: waiting events stay queued, the sections show the world as it is then,
-/// and its snapshot is kept last. With `--every` a snapshot is kept on the way too, behind every so many-th watermark, once all that it makes
-/// due is applied and reported, before the next line is read.
+/// With `--save` the end of the input isn't the end of the deliveries: waiting events stay queued, the sections show the world as it is
+/// then, and its snapshot is kept last. With `--every` the replay also keeps a snapshot after every N-th watermark, once all events that it
+/// makes due are applied and reported, and before it reads the next line.
 ///
 /// `split` replays the same lines into several graphs: it answers each ask for each graph, and at the end prints the triples of each. It
-/// passes over matches.
+/// skips matches.
 ///
 /// `follow` reads records of changes, and prints how many it applied and, if asked, the triples then.
 ///
-/// `words` are the arguments; `keys` key the hashes of terms; `world` has taken nothing yet and has no horizon, and is given back as the run
-/// leaves it. A replay or a drill begins with the first version of the mapping, whichever is in force in `world`, or with the world of a
-/// snapshot. A follower leaves the version as it is.
+/// `words` are the arguments, and `keys` key the hashes of terms. `world` has taken no delivery yet and has no horizon; the call gives it
+/// back as the run leaves it. A replay or a drill begins with the first version of the mapping, whichever is in force in `world`, or with
+/// the world of a snapshot. A follower leaves the version as it is.
 pub fn run<S: Source, R: Revisions, K: Sink, F: Snapshots>(
     alloc: Global,
     keys: RandomState,
@@ -100,26 +97,30 @@ pub fn run<S: Source, R: Revisions, K: Sink, F: Snapshots>(
     // The contents of the revisions stay the same, and failure counters never decrease.
     ensures further { HaveGoneOn S.Source R.Revisions K.Sink F.Snapshots ports.old ports.new }
 {
-    match read_plan(words) {
-        None => (Status::BadWords, world),
-        Some(Plan::Replay(options)) => {
-            let task = Task {
-                alloc,
-                options: &options,
-                report: Report::Answers,
-            };
-            run_replay(keys, &task, None, ports, world)
-        }
-        Some(Plan::Patches(options)) => {
-            let task = Task {
-                alloc,
-                options: &options,
-                report: Report::Changes,
-            };
-            run_replay(keys, &task, None, ports, world)
-        }
-        Some(Plan::Drill(size)) => drill(alloc, size, &mut ports.out, world),
-        Some(Plan::Follow(options)) => follow_records(alloc, keys, &options, ports, world),
-        Some(Plan::Split(options)) => split(alloc, keys, &options, ports, world),
+    if read_plan(words).is_none() {
+        return (Status::BadWords, world);
+    }
+    run_judged(alloc, keys, words, ports, world)
+}
+
+// Runs the command that arguments name which are a plan. Clap reads them, one word for each item; it can refuse them for want of memory
+// alone.
+fn run_judged<S: Source, R: Revisions, K: Sink, F: Snapshots>(
+    alloc: Global,
+    keys: RandomState,
+    words: &[String],
+    ports: &mut Ports<S, R, K, F>,
+    world: World,
+) -> (Status, World)
+    requires world { world.replay ≡ nothing_delivered }
+    requires plan { IsSome (plan_of (map (λ w. string_bytes w) words.now)) }
+    ensures { (plan : ThePlan) → plan_of (map (λ w. string_bytes w) words.now) ≡ Some plan → PlanEnding S.Source R.Revisions K.Sink F.Snapshots plan result.0 ports.old ports.new world result.1 }
+{
+    let Ok(items) = ItemWords::of(alloc, words) else {
+        return (Status::OutOfMemory, unbegun(words, world));
+    };
+    match items.plan(alloc) {
+        Ok(plan) => run_plan(alloc, keys, &plan, ports, world),
+        Err(OutOfMemory) => (Status::OutOfMemory, unbegun(words, world)),
     }
 }

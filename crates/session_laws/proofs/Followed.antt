@@ -9,10 +9,10 @@ use Rattle.fetched_pages.specs.Meaning.{meaning}
 use Rattle.replica.specs.{declared.record.PatchRecord.PatchRecord, Laws.IsGreatest, Record.record_lines, Replica.after}
 use Rattle.graph_routes.specs.declared.routes.Route.{Route}
 use Rattle.replica.proofs.Producers.{one_greatest}
-use Rattle.patch_stream.specs.Laws.{AreOfStream, HasWritableSides, IsChain}
+use Rattle.stream_laws.specs.Laws.{AreOfStream, IsChain}
 use Rattle.patch_stream.specs.Stream.{Step, changes, stream, stream_text}
-use Rattle.patch_stream.proofs.{Bounds.few_enough, Bounds.few_so_far, Bounds.numbers_of, Chains.chain_of_play, Chains.chain_to_end}
-use Rattle.patch_stream.proofs.{Readable.all_of_stream, Readable.can_be_read, Streamed.after_stream, Streamed.all_there}
+use Rattle.stream_laws.proofs.{Bounds.few_enough, Bounds.few_so_far, Bounds.numbers_of, Chains.chain_of_play, Chains.chain_to_end}
+use Rattle.stream_laws.proofs.{Readable.HasFewTriples, Readable.all_of_stream, Readable.can_be_read, Sides.sides_so_far, Sides.sides_to_end, Streamed.after_stream, Streamed.all_there}
 use Rattle.arguments.specs.Options.{FollowChoices, closes, follow_max_bytes_of, max_bytes_of}
 use Rattle.following.specs.{Following.Ending as Followed, Following.FollowMoment, Following.replica_text, Reading.AreRecords}
 use Rattle.following.proofs.{Complete.found_records, Refusals.one_list}
@@ -47,6 +47,11 @@ chain_ended routes false ds start first replies =
 few_ended : (routes : Option (List Route)) (closed : Bool) (ds : List Delivery) (start : Beginning) → IsFirst start → (replies : Replies) → length ds < 2 ^ 32 → length ((course_ended routes closed ds start).steps replies) < 2 ^ 64
 few_ended routes true ds start first replies small = subst (λ (steps : List Step). length steps < 2 ^ 64) (sym (steps_end_first start first replies ds routes)) (few_enough (horizon_at start) replies ds small)
 few_ended routes false ds start first replies small = subst (λ (steps : List Step). length steps < 2 ^ 64) (sym (steps_first start first replies ds)) (few_so_far (horizon_at start) replies ds small)
+
+-- and few triples are stored before and after each of them
+sides_ended : (routes : Option (List Route)) (closed : Bool) (ds : List Delivery) (start : Beginning) → IsFirst start → (replies : Replies) → length ds < 2 ^ 32 → Each HasFewTriples ((course_ended routes closed ds start).steps replies)
+sides_ended routes true ds start first replies small = subst (Each HasFewTriples) (sym (steps_end_first start first replies ds routes)) (sides_to_end (horizon_at start) replies ds small)
+sides_ended routes false ds start first replies small = subst (Each HasFewTriples) (sym (steps_first start first replies ds)) (sides_so_far (horizon_at start) replies ds small)
 
 module _ (run : Run) (start end : Moment) (first : IsFirst (start_of run start)) (ended : Ending run start end) where
   abbrev deliveries : List Delivery
@@ -104,11 +109,13 @@ module _ (run : Run) (start end : Moment) (first : IsFirst (start_of run start))
   pub numbers_in_run : (item : PatchRecord) → In item (stream (steps_made run start end ended)) → item.number < 2 ^ 64
   numbers_in_run item there = numbers_of (steps_made run start end ended) item (few_ended run.environment.routes (closes run.choices) ended.replayed.deliveries (start_of run start) first ended.replayed.replay.played.replies few_deliveries) there
 
-  pub written_records : (limit : ℕ) → Each HasWritableSides (steps_made run start end ended) → length (stream_text (steps_made run start end ended)) ≤ limit →
+  pub written_records : (limit : ℕ) → length (stream_text (steps_made run start end ended)) ≤ limit →
       AreRecords limit (stream_text (steps_made run start end ended)) (stream (steps_made run start end ended)) None × AreOfStream (steps_made run start end ended) (stream (steps_made run start end ended))
-  written_records limit sides within =
-      let read = can_be_read _ (steps_made run start end ended) (chain_ended run.environment.routes (closes run.choices) ended.replayed.deliveries (start_of run start) first ended.replayed.replay.played.replies) sides
-      (few_ended run.environment.routes (closes run.choices) ended.replayed.deliveries (start_of run start) first ended.replayed.replay.played.replies few_deliveries) in (
+  written_records limit within =
+      let replies : Replies = ended.replayed.replay.played.replies in
+      let read = can_be_read _ (steps_made run start end ended) (chain_ended run.environment.routes (closes run.choices) ended.replayed.deliveries (start_of run start) first replies)
+      (sides_ended run.environment.routes (closes run.choices) ended.replayed.deliveries (start_of run start) first replies few_deliveries)
+      (few_ended run.environment.routes (closes run.choices) ended.replayed.deliveries (start_of run start) first replies few_deliveries) in (
         record { within = within; are = record { are = read.are_lines ∙ sym (append-nil (flat_map record_lines (stream (steps_made run start end ended)))); sound = read.sound; unfinished = tt } },
         all_of_stream (steps_made run start end ended),
       )

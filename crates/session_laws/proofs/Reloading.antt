@@ -7,7 +7,7 @@ use Rattle.fetched_pages.specs.Meaning.{meaning}
 use Rattle.world.specs.{Roomed.room_with, WorldState.WorldState}
 use Rattle.checkpoint.specs.declared.fault.LoadFault.{LoadFault}
 use Rattle.checkpoint.specs.declared.fault.LoadFault.TheVariants.{ReadFault as NotRead, TooLong as OverLength, BadLine, Full, OutOfMemory as LoadOutOfMemory}
-use Rattle.checkpoint.specs.{Causes.IsFileOverfull, Causes.IsNoSnapshot, Causes.longest_file, Loading.IsLoadable}
+use Rattle.checkpoint.specs.{Causes.IsFileOverfull, Causes.IsNoSnapshot, Causes.IsNoSnapshotWithin, Causes.longest_file, Loading.IsLoadable}
 use Rattle.checkpoint.specs.Saved.{AreWithin, saved_of}
 use Rattle.arguments.specs.Options.{closes, max_terms_of}
 use Rattle.run_model.specs.declared.status.Status.{Status}
@@ -98,7 +98,7 @@ module _ (h : Option ℕ) (earlier : Replies) (ds : List Delivery) (run : Run) (
         of_fault Full stop why = cc
         of_fault LoadOutOfMemory stop why = cc
         of_fault (BadLine m) stop why = ⊎_elim
-            (λ bad. lines m (loadable 0 fit within) (at_bytes (λ bytes. IsNoSnapshot bytes m) bad))
+            (λ bad. lines m (loadable 0 fit within) (at_bytes (λ bytes. IsNoSnapshotWithin (max_terms_of later.choices) bytes m) bad).0)
             (λ other.
             let there : saved_in_bytes (file_text saved) ≡ Some (saved_of other.1.world other.1.numbers) = at_bytes (λ bytes. saved_in_bytes bytes ≡ Some (saved_of other.1.world other.1.numbers)) other.1.loaded.saved in
             let both : Some (saved_of other.1.world other.1.numbers) ≡ Some saved = sym there ∙ back in

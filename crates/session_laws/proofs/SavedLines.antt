@@ -17,7 +17,7 @@ use Rattle.replay_model.specs.Play.{Played, Replies, apply, apply_all, entries_a
 use Rattle.replay_model.specs.{Records.Bytes, Records.record_of, ReplayState.following}
 use Rattle.replay_model.proofs.Arrivals.{events-push, events_passing-push, play-push}
 use Rattle.replay_model.proofs.{Deliveries.due-kept, Deliveries.due-told, DueParts.due-watermark}
-use Rattle.patch_stream.proofs.Bounds.{filter_few}
+use Rattle.stream_laws.proofs.Bounds.{filter_few}
 use Rattle.snapshot.specs.declared.line.Line.TheVariants.{Remembered, Side}
 use Rattle.snapshot.specs.Whole.{Saved, entity_line, lines_before_end}
 

@@ -3,7 +3,7 @@
 ghost use Rattle.std.specs.Prelude.{◌≡◌, ◌<◌, ◌≤◌, ◌⊎◌, ◌^◌, ℕ, true, false, length, List, [], Option, None, Some, IfSome, IsSome, ◌++◌};
 ghost use Rattle.std.specs.FinMap as map;
 ghost use Rattle.std.specs.List.{flat_map};
-ghost use Rattle.sorted_sets.specs.Rising.{Each, In, has, sorted};
+ghost use Rattle.sorted_sets.specs.Rising.{In, has, sorted};
 ghost use Rattle.rdf_term.specs.Order.{triple_cmp};
 ghost use Rattle.delivery.specs.declared.Delivery.{Delivery};
 ghost use Rattle.entity_model.specs.{declared.event.Event.Event, declared.id.EntityId.EntityId, Event.event_cmp};
@@ -18,7 +18,7 @@ ghost use Rattle.snapshot.specs.{File.IsFitSaved, File.saved_in_bytes, declared.
 ghost use Rattle.triple_store.specs.Room.{distinct};
 ghost use Rattle.wq_io.specs.Streams.{after_known};
 ghost use Rattle.replica.specs.declared.record.PatchRecord.{PatchRecord};
-ghost use Rattle.patch_stream.specs.Laws.{AreOfStream, HasWritableSides};
+ghost use Rattle.stream_laws.specs.Laws.{AreOfStream};
 ghost use Rattle.patch_stream.specs.Stream.{Step, changes, steps_of_play, steps_to_end, stream, stream_text};
 ghost use Rattle.graph_routes.specs.declared.routes.Route.{Route};
 ghost use Rattle.arguments.specs.Options.{FollowChoices, closes, follow_max_bytes_of, max_bytes_of, max_terms_of};
@@ -146,11 +146,10 @@ pub fn numbers_of_a_run_fit()
 {}
 
 /// What a first run writes of its stream are the records that a follower reads of it, within any limit that the text fits. This holds if
-/// the run's input tells its bytes and may have no more than 4,294,967,295, and what is stored before and after each step has terms of
-/// UTF-8 and fewer than 2^64 triples.
+/// the run's input tells its bytes and may have no more than 4,294,967,295.
 pub fn written_streams_are_records()
     ensures { (run : Run) (start end : Moment) → IsFirst (start_of run start) → (ended : Ending run start end) (bytes : List ℕ) (limit : ℕ) →
-        start.input.left ≡ Some bytes → max_bytes_of run.choices ≤ 4294967295 → Each HasWritableSides (steps_made run start end ended) →
+        start.input.left ≡ Some bytes → max_bytes_of run.choices ≤ 4294967295 →
         length (stream_text (steps_made run start end ended)) ≤ limit →
         AreRecords limit (stream_text (steps_made run start end ended)) (stream (steps_made run start end ended)) None
         × AreOfStream (steps_made run start end ended) (stream (steps_made run start end ended)) }

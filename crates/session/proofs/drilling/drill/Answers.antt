@@ -2,5 +2,5 @@
 use Rattle.std.specs.FinMap.{len-empty}
 use Rattle.session.proofs.drilling.drill.Goals as goal
 
-pub set_room-requires : goal.set_room-requires
-set_room-requires g c = rw c.begin_by_first.ensures.replay (len-empty _ _)
+pub set_limit-requires : goal.set_limit-requires
+set_limit-requires g c = rw c.begin_by_first.ensures.replay (len-empty _ _)

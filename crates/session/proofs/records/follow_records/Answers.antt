@@ -6,8 +6,8 @@ use Rattle.run_model.proofs.Ongoing.{followed_on}
 use Rattle.session.proofs.Plans.{follow_stopped}
 use Rattle.session.proofs.records.follow_records.Goals as goal
 
-pub set_room-requires : goal.set_room-requires
-set_room-requires g c = rw c.requires.world (len-empty _ _)
+pub set_limit-requires : goal.set_limit-requires
+set_limit-requires g c = rw c.requires.world (len-empty _ _)
 
 pub returns-in-Err-clause-ending : goal.returns-in-Err-clause-ending
 returns-in-Err-clause-ending g c = follow_stopped _ _ _ _ _ c.status.ensures.stops (record { why = c.in-Err.why; is = c.from.ensures; stopped = c.in-Err.ensures.err }) c.follow.ensures.taken
@@ -16,10 +16,10 @@ pub returns-in-Ok-clause-ending : goal.returns-in-Ok-clause-ending
 returns-in-Ok-clause-ending g c = record { outcome = c.in-Ok.ensures.ok; taken = c.follow.ensures.taken }
 
 pub returns-in-Ok-clause-held : goal.returns-in-Ok-clause-held
-returns-in-Ok-clause-held g c = rw (c.set_room.ensures, c.requires.world) (nothing_held _ nothing_played.records _ (len-empty _ _))
+returns-in-Ok-clause-held g c = rw (c.set_limit.ensures, c.requires.world) (nothing_held _ nothing_played.records _ (len-empty _ _))
 
 pub returns-in-Err-clause-held : goal.returns-in-Err-clause-held
-returns-in-Err-clause-held g c = rw (c.set_room.ensures, c.requires.world) (nothing_held _ nothing_played.records _ (len-empty _ _))
+returns-in-Err-clause-held g c = rw (c.set_limit.ensures, c.requires.world) (nothing_held _ nothing_played.records _ (len-empty _ _))
 
 pub returns-in-Ok-clause-further : goal.returns-in-Ok-clause-further
 returns-in-Ok-clause-further g c = followed_on g.S.Source g.R.Revisions g.K.Sink g.F.Snapshots c.args.ports.now _ _ c.follow.ensures.later c.follow.ensures.most (record { faults = c.follow.ensures.written; most = c.follow.ensures.most_written })

@@ -3,11 +3,11 @@ use Rattle.std.proofs.Common.{◌∙◌}
 use Rattle.std.specs.FinMap.{len-empty}
 use Rattle.session.proofs.resuming.begin.Goals as goal
 
-pub set_room-requires : goal.set_room-requires
-set_room-requires c = rw c.set_horizon.ensures.replay (len-empty _ _)
+pub set_limit-requires : goal.set_limit-requires
+set_limit-requires c = rw c.set_horizon.ensures.replay (len-empty _ _)
 
 pub returns : goal.returns
-returns c = c.set_room.ensures ∙ (λ i. record {
+returns c = c.set_limit.ensures ∙ (λ i. record {
   replay = c.set_horizon.ensures.replay i;
   limit = c.max_terms.ensures i;
   mapping = c.set_horizon.ensures.first.0 i;
