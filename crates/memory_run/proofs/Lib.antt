@@ -1,0 +1,4 @@
+mod Again
+mod Begun
+mod Faultless
+mod Printed
