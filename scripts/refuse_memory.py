@@ -146,6 +146,15 @@ class Trial:
         return status, self.judge_file(bool(settings))
 
 
+def build(room):
+    """Compiles the library that refuses requests, and gives its path."""
+    if shutil.which("cc") is None:
+        sys.exit("a C compiler is missing: apt-get install gcc")
+    refuse = str(room / "refuse.so")
+    subprocess.run(["cc", "-shared", "-fPIC", "-x", "c", "-", "-o", refuse, "-ldl"], input=REFUSE.encode(), check=True)
+    return refuse
+
+
 def main():
     if len(sys.argv) > 2 or sys.argv[1:] in (["-h"], ["--help"]):
         print(__doc__.strip())
@@ -153,13 +162,10 @@ def main():
     program = pathlib.Path(sys.argv[1] if len(sys.argv) == 2 else TOP / "crates/wdq/out/wdq").resolve()
     if not program.exists():
         sys.exit(f"{program} isn't built")
-    if shutil.which("cc") is None:
-        sys.exit("a C compiler is missing: apt-get install gcc")
     wrong = 0
     with tempfile.TemporaryDirectory() as folder:
         room = pathlib.Path(folder)
-        refuse = str(room / "refuse.so")
-        subprocess.run(["cc", "-shared", "-fPIC", "-x", "c", "-", "-o", refuse, "-ldl"], input=REFUSE.encode(), check=True)
+        refuse = build(room)
         for name, words, cwd, lines in runs(room):
             trial = Trial(program, refuse, room, words, cwd, lines)
             requests = trial.count()
