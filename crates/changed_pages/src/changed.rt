@@ -7,7 +7,7 @@ ghost use Rattle.entity_json.specs.{Document.document_of, Reading.Pages.page_of}
 ghost use Rattle.changed_pages.specs.{Changed.HasChanged, Changed.depth_of};
 
 use bumpalo::Bump;
-use entity_json::{PAGE_LIMIT, page_of};
+use entity_json::{PAGE_LIMIT, Page, discard, page_of};
 use entity_model::{Document, Entity, EntityId};
 use json_differing::read_differing;
 use json_spell::Json;
@@ -42,14 +42,18 @@ impl Changed<'_> {
 fn entity_in<'a>(alloc: Global, id: EntityId, json: &Json<'_, 'a>) -> Option<Entity<'a>>
     ensures { IfSome result (λ entity. page_of (json_view json.now) ≡ Some (record { id = id; document = AnEntity entity })) }
 {
-    let page = page_of(alloc, json).ok()?;
-    if page.id != id {
+    let Page { id: own, document } = page_of(alloc, json).ok()?;
+    if own != id {
+        discard(document);
         return None;
     }
-    match page.document {
+    match document {
         Document::Entity(entity) => Some(entity),
         Document::Redirect(_target) => None,
-        Document::Lexeme(_lexeme) => None,
+        Document::Lexeme(lexeme) => {
+            discard(Document::Lexeme(lexeme));
+            None
+        }
     }
 }
 
@@ -96,7 +100,10 @@ fn changed_within<'a>(
         return None;
     }
     let gone = entity_in(alloc, id, &differing.old)?;
-    let come = entity_in(alloc, id, &differing.new)?;
+    let Some(come) = entity_in(alloc, id, &differing.new) else {
+        drop(gone);
+        return None;
+    };
     Some(Changed { gone, come })
 }
 

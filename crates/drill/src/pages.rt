@@ -6,7 +6,7 @@ ghost use Rattle.drill.specs.Drill.{claims, earlier_page, later_page, page_front
 use base::OutOfMemory;
 use std::alloc::Global;
 
-/// The page at a revision: an odd revision has only a label, an even one a statement too.
+/// The page at a revision: an odd revision has only a label, and an even one also has a statement.
 pub fn page(alloc: Global, rev: u64) -> Result<String, OutOfMemory>
     ensures { IfOk result (λ page. string_bytes page ≡ page_of rev) }
 {

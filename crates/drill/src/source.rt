@@ -10,8 +10,8 @@ use revisions::{NoRevision, Revisions};
 use std::alloc::Global;
 use std::marker::Model;
 
-/// The revisions of a drill, at every place the same: each is made when it is fetched, and nothing is kept.
-/// A fetch never answers `Failed`.
+/// The revisions of a drill, the same in every folder: each is made when it is fetched, and nothing is kept. A fetch never answers
+/// `Failed`.
 #[derive(Drop)]
 pub struct DrillRevisions {
     size: u32,

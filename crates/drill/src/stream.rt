@@ -8,9 +8,9 @@ use delivery::Delivery;
 use entity_model::{EntityId, Event, IdKind, Kind};
 use std::alloc::Global;
 
-/// What is delivered of the item with this number, in order: its later edit, its earlier edit, and the later one again. Each fifth item is
-/// also deleted, and after each tenth come a watermark and an edit that is late. Revision r is at r seconds after 1970-01-01T00:00:00Z, but
-/// that of a late edit two seconds earlier.
+/// The deliveries of the item with this number, in order: its later edit, its earlier edit, and the later one again. Each fifth item is
+/// also deleted, and after each tenth come a watermark and an edit that is late. The time of revision r is r seconds after
+/// 1970-01-01T00:00:00Z; that of a late edit is two seconds earlier.
 pub fn deliveries(alloc: Global, number: u32) -> Result<List<Delivery>, OutOfMemory>
     requires { IsSize number }
     ensures { IfOk result (λ list. list ≡ item_deliveries number) }

@@ -1,3 +1,4 @@
+pub mod Mapped
 pub mod Arrays
 pub mod LastMembers
 pub mod Entried

@@ -40,6 +40,7 @@ pub fn page_kind(json: &Json<'_, '_>) -> Result<IdKind, PartFault>
 }
 
 // The datatype, which a property alone has. A lexeme is neither a property nor an item.
+#[tactic(auto, using(crate::proofs::Mapped::finds_mapped))]
 fn datatype_by_kind<'a>(
     alloc: Global,
     kind: IdKind,
@@ -48,7 +49,7 @@ fn datatype_by_kind<'a>(
     ensures { Finds result (datatype_by_kind kind (json_view json.now)) }
 {
     match kind {
-        IdKind::P => Ok(Some(copy_text_at(alloc, json, "datatype")?)),
+        IdKind::P => copy_text_at(alloc, json, "datatype").map(Some),
         IdKind::Q => Ok(None),
         IdKind::L => Err(PartFault::Shape),
     }

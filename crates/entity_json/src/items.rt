@@ -7,7 +7,7 @@ ghost use Rattle.entity_json.specs.Reading.Items.{item_id_of, item_id_step, item
 
 use crate::each::{ItemReader, each_found_item};
 use crate::leaf::{id_of_kind, optional_list_at, text_of};
-use crate::part::PartFault;
+use crate::part::{PartFault, put};
 use base::List;
 use entity_model::{EntityId, IdKind};
 use json_spell::Json;
@@ -32,8 +32,7 @@ impl<'a> ItemReader<'a, EntityId> for ItemIdReader {
         json: &Json<'_, 'a>,
         out: &mut List<EntityId>,
     ) -> Result<(), PartFault> {
-        out.push(item_id_of(json)?)?;
-        Ok(())
+        put(item_id_of(json), out)
     }
 }
 

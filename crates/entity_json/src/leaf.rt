@@ -92,6 +92,7 @@ pub fn number_at<'a>(json: &Json<'_, 'a>, name: &str) -> Result<&'a str, PartFau
 }
 
 // A copy of the member with the name that is a text and may be missing.
+#[tactic(auto, using(crate::proofs::Mapped::finds_mapped))]
 pub fn optional_text_at<'a>(
     alloc: Global,
     json: &Json<'_, 'a>,
@@ -101,7 +102,7 @@ pub fn optional_text_at<'a>(
 {
     match json.get(name) {
         None => Ok(None),
-        Some(value) => Ok(Some(copy_text(alloc, value)?)),
+        Some(value) => copy_text(alloc, value).map(Some),
     }
 }
 

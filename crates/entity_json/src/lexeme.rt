@@ -10,7 +10,7 @@ ghost use Rattle.entity_json.specs.Reading.Terms.{labels_at};
 use crate::each::{ItemReader, each_found_item};
 use crate::items::read_item_ids;
 use crate::leaf::{copy_text_at, id_of_kind_at, optional_list_at, optional_text_at};
-use crate::part::{PartFault, finish};
+use crate::part::{PartFault, finish, put};
 use crate::statements::read_statements;
 use crate::terms::read_labels;
 use base::{CowText, List, OutOfMemory};
@@ -152,8 +152,7 @@ impl<'a, 'm> ItemReader<'a, Part<'a>> for PartReader<'m> {
         json: &Json<'_, 'a>,
         out: &mut List<Part<'a>>,
     ) -> Result<(), PartFault> {
-        out.push(part_of(alloc, self.kind, self.front, json)?)?;
-        Ok(())
+        put(part_of(alloc, self.kind, self.front, json), out)
     }
 }
 
@@ -211,10 +210,10 @@ pub fn lexeme_of<'a>(alloc: Global, json: &Json<'_, 'a>) -> Result<Lexeme<'a>, P
 {
     let mut lexeme = Lexeme {
         id: id_of_kind_at(IdKind::L, json, "id")?,
-        modified: optional_text_at(alloc, json, "modified")?,
-        lemmas: lemmas_at(alloc, json)?,
         category: id_of_kind_at(IdKind::Q, json, "lexicalCategory")?,
         language: id_of_kind_at(IdKind::Q, json, "language")?,
+        modified: optional_text_at(alloc, json, "modified")?,
+        lemmas: lemmas_at(alloc, json)?,
         statements: List::new(alloc),
         forms: List::new(alloc),
         senses: List::new(alloc),

@@ -8,7 +8,7 @@ use crate::each::{EntryReader, each_found_entry};
 use crate::items::read_item_ids;
 use crate::leaf::copy_text_at;
 use crate::map::map_at;
-use crate::part::{PartFault, finish};
+use crate::part::{PartFault, finish, put};
 use base::List;
 use entity_model::Link;
 use json_spell::{Json, Member};
@@ -39,8 +39,7 @@ impl<'a> EntryReader<'a, Link<'a>> for LinkReader {
         entry: &Member<'_, 'a>,
         out: &mut List<Link<'a>>,
     ) -> Result<(), PartFault> {
-        out.push(link_of(alloc, &entry.value)?)?;
-        Ok(())
+        put(link_of(alloc, &entry.value), out)
     }
 }
 

@@ -2,9 +2,10 @@
 
 ghost use Rattle.std.specs.Prelude.{◌≡◌, Option};
 ghost use Rattle.entity_json.specs.Finds.{Finds, Makes};
+ghost use Rattle.entity_json.specs.Reading.Steps.{put};
 ghost use Rattle.entity_json.specs.declared.part.PartFault.TheVariants.{OutOfMemory as PartOutOfMemory};
 
-use base::OutOfMemory;
+use base::{List, OutOfMemory};
 use std::alloc::{AllocError, AllocFailed};
 
 /// Why a page, or a part of one, isn't read.
@@ -48,4 +49,12 @@ pub fn finish<T: Drop>(filled: Result<(), PartFault>, part: T) -> Result<T, Part
         Ok(()) => Ok(part),
         Err(fault) => Err(fault),
     }
+}
+
+// Puts the part at the end of the list, where it was found.
+pub fn put<T: Drop>(found: Result<T, PartFault>, out: &mut List<T>) -> Result<(), PartFault>
+    ensures { (there : Option T) → Finds found there → Makes result out.new (put out.old there) }
+{
+    out.push(found?)?;
+    Ok(())
 }

@@ -9,7 +9,7 @@ ghost use Rattle.entity_json.specs.Reading.Snaks.{datatype_of, content_named, sn
 use crate::each::{EntryReader, ItemReader, each_found_entry, each_item};
 use crate::leaf::{copy_text, id_of_kind, list_of, member_at, text_at};
 use crate::map::map_at;
-use crate::part::PartFault;
+use crate::part::{PartFault, finish, put};
 use crate::values::value_of;
 use base::{CowText, List, Text};
 use entity_model::{Content, EntityId, IdKind, Snak};
@@ -53,13 +53,13 @@ fn datatype_of<'a>(alloc: Global, json: &Json<'_, 'a>) -> Result<CowText<'a>, Pa
 }
 
 // What is said of the value.
-#[tactic(auto, unfolding(crate::specs::Reading::Snaks::snak_content))]
+#[tactic(auto, unfolding(crate::specs::Reading::Snaks::snak_content), using(crate::proofs::Mapped::finds_mapped))]
 fn snak_content<'a>(alloc: Global, json: &Json<'_, 'a>) -> Result<Content<'a>, PartFault>
     ensures { Finds result (snak_content (json_view json.now)) }
 {
     let named = text_at(json, "snaktype")?;
     if named == "value" {
-        return Ok(Content::Value(value_of(alloc, member_at(json, "datavalue")?)?));
+        return value_of(alloc, member_at(json, "datavalue")?).map(Content::Value);
     }
     if named == "novalue" {
         return Ok(Content::NoValue);
@@ -122,8 +122,7 @@ impl<'a> ItemReader<'a, Snak<'a>> for SnakReader<'_> {
         json: &Json<'_, 'a>,
         out: &mut List<Snak<'a>>,
     ) -> Result<(), PartFault> {
-        out.push(snak_of(alloc, self.key, self.property, index, json)?)?;
-        Ok(())
+        put(snak_of(alloc, self.key, self.property, index, json), out)
     }
 }
 
@@ -157,6 +156,6 @@ pub fn snaks_at<'a>(
 {
     let entries = map_at(json, name)?;
     let mut snaks = List::new(alloc);
-    each_found_entry(alloc, &SnaksReader, entries, &mut snaks)?;
-    Ok(snaks)
+    let filled = each_found_entry(alloc, &SnaksReader, entries, &mut snaks);
+    finish(filled, snaks)
 }

@@ -9,7 +9,7 @@ ghost use Rattle.entity_json.specs.Reading.Statements.{rank_named, reference_of,
 use crate::each::{EntryReader, ItemReader, each_found_entry, each_found_item, each_item};
 use crate::leaf::{copy_text_at, id_of_kind, list_of, member_at, optional_list_at, text_at};
 use crate::map::map_at;
-use crate::part::PartFault;
+use crate::part::{PartFault, finish, put};
 use crate::snaks::{snak_of, snaks_at};
 use base::{CowText, List, are_alphanumeric};
 use entity_model::{EntityId, IdKind, Rank, Reference, Snak, Statement};
@@ -62,8 +62,7 @@ impl<'a> ItemReader<'a, Reference<'a>> for ReferenceReader {
         json: &Json<'_, 'a>,
         out: &mut List<Reference<'a>>,
     ) -> Result<(), PartFault> {
-        out.push(reference_of(alloc, json)?)?;
-        Ok(())
+        put(reference_of(alloc, json), out)
     }
 }
 
@@ -78,8 +77,8 @@ fn references_at<'a>(
 {
     let items = optional_list_at(json, name)?;
     let mut references = List::new(alloc);
-    each_found_item(alloc, &ReferenceReader, items, &mut references)?;
-    Ok(references)
+    let filled = each_found_item(alloc, &ReferenceReader, items, &mut references);
+    finish(filled, references)
 }
 
 // The rank of a statement.
@@ -160,8 +159,7 @@ impl<'a> ItemReader<'a, Statement<'a>> for StatementReader<'_> {
         json: &Json<'_, 'a>,
         out: &mut List<Statement<'a>>,
     ) -> Result<(), PartFault> {
-        out.push(statement_of(alloc, self.key, self.property, json)?)?;
-        Ok(())
+        put(statement_of(alloc, self.key, self.property, json), out)
     }
 }
 

@@ -8,7 +8,7 @@ ghost use Rattle.entity_json.specs.Reading.Terms.{tagged_under, label_step, alia
 use crate::each::{EntryReader, ItemReader, each_found_entry, each_item};
 use crate::leaf::{copy_text_at, list_of};
 use crate::map::map_at;
-use crate::part::PartFault;
+use crate::part::{PartFault, put};
 use base::List;
 use entity_model::Tagged;
 use json_spell::{Json, Member};
@@ -39,8 +39,7 @@ impl<'a> EntryReader<'a, Tagged<'a>> for LabelReader {
         entry: &Member<'_, 'a>,
         out: &mut List<Tagged<'a>>,
     ) -> Result<(), PartFault> {
-        out.push(tagged_under(alloc, &entry.value, "value")?)?;
-        Ok(())
+        put(tagged_under(alloc, &entry.value, "value"), out)
     }
 }
 
@@ -56,8 +55,7 @@ impl<'a> ItemReader<'a, Tagged<'a>> for AliasReader {
         json: &Json<'_, 'a>,
         out: &mut List<Tagged<'a>>,
     ) -> Result<(), PartFault> {
-        out.push(tagged_under(alloc, json, "value")?)?;
-        Ok(())
+        put(tagged_under(alloc, json, "value"), out)
     }
 }
 

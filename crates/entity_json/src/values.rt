@@ -156,21 +156,21 @@ fn globe_of<'a>(alloc: Global, json: &Json<'_, 'a>) -> Result<GlobeParts<'a>, Pa
 }
 
 // A value of the type; one of a type that isn't named here may be anything.
-#[tactic(auto, unfolding(crate::specs::Reading::Values::value_of_type, crate::specs::Reading::Values::value_of_parts))]
+#[tactic(auto, unfolding(crate::specs::Reading::Values::value_of_type, crate::specs::Reading::Values::value_of_parts), using(crate::proofs::Mapped::finds_mapped))]
 fn value_of_type<'a>(alloc: Global, kind: &str, json: &Json<'_, 'a>) -> Result<Value<'a>, PartFault>
     ensures { Finds result (value_of_type kind.now (json_view json.now)) }
 {
     if kind == "string" {
-        return Ok(Value::Str(copy_text(alloc, json)?));
+        return copy_text(alloc, json).map(Value::Str);
     }
     if kind == "wikibase-entityid" {
-        return Ok(Value::Entity(entity_value(alloc, json)?));
+        return entity_value(alloc, json).map(Value::Entity);
     }
     value_of_parts(alloc, kind, json)
 }
 
 // The same of a type whose values have parts.
-#[tactic(auto, unfolding(crate::specs::Reading::Values::value_of_parts))]
+#[tactic(auto, unfolding(crate::specs::Reading::Values::value_of_parts), using(crate::proofs::Mapped::finds_mapped))]
 fn value_of_parts<'a>(
     alloc: Global,
     kind: &str,
@@ -179,16 +179,16 @@ fn value_of_parts<'a>(
     ensures { Finds result (value_of_parts kind.now (json_view json.now)) }
 {
     if kind == "time" {
-        return Ok(Value::Time(time_of(alloc, json)?));
+        return time_of(alloc, json).map(Value::Time);
     }
     if kind == "quantity" {
-        return Ok(Value::Quantity(quantity_of(alloc, json)?));
+        return quantity_of(alloc, json).map(Value::Quantity);
     }
     if kind == "globecoordinate" {
-        return Ok(Value::Globe(globe_of(alloc, json)?));
+        return globe_of(alloc, json).map(Value::Globe);
     }
     if kind == "monolingualtext" {
-        return Ok(Value::Mono(tagged_under(alloc, json, "text")?));
+        return tagged_under(alloc, json, "text").map(Value::Mono);
     }
     Ok(Value::Other)
 }

@@ -163,10 +163,26 @@ fn pattern_with(
     ensures { AnswersPart (else_cause LineCause.Pattern
         (pattern_with (view subject.now) (view predicate.now) (view object.now)) Ok) result }
 {
+    let subject = wanted_term(alloc, subject)?;
+    let predicate = match wanted_term(alloc, predicate) {
+        Ok(predicate) => predicate,
+        Err(fault) => {
+            drop(subject);
+            return Err(fault);
+        }
+    };
+    let object = match wanted_term(alloc, object) {
+        Ok(object) => object,
+        Err(fault) => {
+            drop(subject);
+            drop(predicate);
+            return Err(fault);
+        }
+    };
     Ok(Pattern {
-        subject: wanted_term(alloc, subject)?,
-        predicate: wanted_term(alloc, predicate)?,
-        object: wanted_term(alloc, object)?,
+        subject,
+        predicate,
+        object,
     })
 }
 

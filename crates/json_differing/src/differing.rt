@@ -9,12 +9,13 @@ ghost use Rattle.json_differing.specs.{Readable.HasMember, Readable.HasMembers, 
 ghost use Rattle.json_spell.specs.View.{json_view, member_view};
 
 use crate::alike::are_alike;
+use crate::both::{closes, next_of_both};
 use crate::own::{are_apart, own_members, read_own};
 use crate::scanned::scan_members;
 use crate::spelled::read_spelled_members;
 use bumpalo::Bump;
 use bumpalo::collections::into_bump_slice;
-use json_spell::{Json, LEVELS, Member, after_byte, next, read_name, read_spaced, skip_ws};
+use json_spell::{Json, LEVELS, Member, after_byte, read_name, read_spaced, skip_ws};
 use std::alloc::Global;
 
 // Where each of two texts is read on.
@@ -148,15 +149,6 @@ fn name_of_both<'b, 'a: 'b>(arena: &'b Bump, texts: Texts<'a>) -> Option<Named<'
     })
 }
 
-// The byte that both texts have in front, and what follows it.
-fn next_of_both<'a>(texts: Texts<'a>) -> Option<(u8, Texts<'a>)>
-    ensures next { IfSome result (λ p. (texts.entry.old.now ≡ p.0 ∷ p.1.old.now) × (texts.entry.new.now ≡ p.0 ∷ p.1.new.now)) }
-{
-    let (byte, old) = next(texts.old)?;
-    let (other, new) = next(texts.new)?;
-    (byte == other).then_some((byte, Texts { old, new }))
-}
-
 // The values as members of a name.
 fn paired_as<'b, 'a>(name: &'b str, found: Found<'b, 'a>) -> Paired<'b, 'a>
     ensures old { member_view result.old ≡ (name.now, json_view found.entry.old) }
@@ -176,13 +168,6 @@ fn paired_as<'b, 'a>(name: &'b str, found: Found<'b, 'a>) -> Paired<'b, 'a>
         },
         rests,
     }
-}
-
-// Whether an object closes at once, after its opening brace.
-fn closes(bytes: &[u8]) -> bool
-    ensures { result ≡ false → after_byte 0x7D (skip is_ws bytes.now) ≡ None }
-{
-    after_byte(skip_ws(bytes), b'}').is_some()
 }
 
 // Members of one name.

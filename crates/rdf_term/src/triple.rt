@@ -27,10 +27,20 @@ impl Triple {
     pub fn copy(&self, alloc: Global) -> Result<Triple, OutOfMemory>
         ensures { IfOk result (λ triple. triple ≡ self.now) }
     {
+        let subject = self.subject.copy(alloc)?;
+        let Ok(predicate) = self.predicate.copy(alloc) else {
+            drop(subject);
+            return Err(OutOfMemory);
+        };
+        let Ok(object) = self.object.copy(alloc) else {
+            drop(subject);
+            drop(predicate);
+            return Err(OutOfMemory);
+        };
         Ok(Triple {
-            subject: self.subject.copy(alloc)?,
-            predicate: self.predicate.copy(alloc)?,
-            object: self.object.copy(alloc)?,
+            subject,
+            predicate,
+            object,
         })
     }
 }

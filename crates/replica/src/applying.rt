@@ -15,7 +15,7 @@ use std::collections::BTreeMap;
 use triple_patch::Patch;
 use triple_store::{Store, StoreFault, Uncounted};
 
-/// Applies the record of this number, where one waits, and says whether one did. After a fault the store has the triples that it had.
+/// Applies the record of this number, if one waits, and says whether one did. After a fault the store has the triples that it had.
 pub fn apply_waiting(
     alloc: Global,
     store: &mut Store,

@@ -7,7 +7,7 @@ ghost use Rattle.replica.specs.{declared.head.Head.Head as TheHead, Head.HasNoSp
 use rdf_term::OutOfMemory;
 use std::alloc::Global;
 
-/// What the first line of a record says: its number, and how many triples come and go.
+/// What the first line of a record says: its number, and how many triples it adds and removes.
 #[derive(Clone, Copy, Drop)]
 pub struct Head {
     pub number: u64,

@@ -8,7 +8,8 @@ pub fn a_replica_follows_its_producer()
     ensures { FollowsItsProducer }
 {}
 
-/// Records of a producer alone, of which those from 1 to n are there, lead to the triples that the producer had after its record n.
+/// Records that are all of one producer, and among which are those from 1 to n, lead to the triples that the producer had after its record
+/// n.
 pub fn records_lead_to_their_producer()
     ensures { LeadsToItsProducer }
 {}

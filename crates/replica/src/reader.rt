@@ -18,13 +18,13 @@ use thiserror::Error;
 /// Why a line is refused: the first of these that applies.
 #[derive(Clone, Copy, Debug, PartialEq, Eq, Error)]
 pub enum PatchFault {
-    /// A record has to begin here, and the line is no first line of one.
+    /// A record should begin here, and the line isn't the head line of one.
     #[error("no head of a record")]
     Head,
-    /// A triple has to stand here, and the line isn't the canonical text of one with fit and short terms.
+    /// A triple should come here, and the line isn't the canonical text of one with fit and short terms.
     #[error("no triple in canonical form")]
     Triple,
-    /// The triple isn't greater than the one before it in its part, or stands in both parts.
+    /// The triple isn't greater than the one before it in its part, or is in both parts.
     #[error("triple out of order")]
     Order,
     /// A request for memory was refused.
@@ -192,6 +192,7 @@ impl Begun {
         if self.may_come_next(&triple) {
             self.with_triple(triple)
         } else {
+            drop(triple);
             Err(PatchFault::Order)
         }
     }

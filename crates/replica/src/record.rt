@@ -8,22 +8,22 @@ use crate::head::Head;
 use rdf_term::{OutOfMemory, Triple, TripleSet, write_triple};
 use std::alloc::Global;
 
-/// How the triples of a producer changed, once.
+/// One change of the triples of a producer.
 #[derive(Drop)]
 pub struct PatchRecord {
     /// The place among the producer's records, from 1.
     pub number: u64,
-    /// The triples that came.
+    /// The triples that were added.
     pub adds: TripleSet,
-    /// The triples that went.
+    /// The triples that were removed.
     pub removes: TripleSet,
 }
 
-/// Appends the record's text: a line `# patch NUMBER +ADDS -REMOVES`, with how many triples come and go, and a line of N-Triples for
-/// each of them, in canonical form: first those that come and then those that go, each in the order of triples.
+/// Appends the record's text: a line `# patch NUMBER +ADDS -REMOVES`, with how many triples are added and removed, and a line of canonical
+/// N-Triples for each of them: first the added, then the removed ones, each part in the order of triples.
 ///
 /// # Errors
-/// Memory was refused: `out` begins with what it held, and a part of the record may stand behind it.
+/// Memory was refused: `out` begins with what it held, and a part of the record may follow.
 pub fn write_patch(alloc: Global, item: &PatchRecord, out: &mut Vec<u8>) -> Result<(), OutOfMemory>
     ensures { Appends out.old.items out.new.items (record_text item.now) result }
 {

@@ -21,7 +21,7 @@ use triple_store::{Rows, Store, StoreFault};
 pub enum Received {
     /// No record with this number was received before.
     Fresh,
-    /// One was, and nothing changes.
+    /// A record with this number was received before, and nothing changes.
     Repeat,
 }
 
@@ -51,8 +51,7 @@ impl Model for Replica {
 }
 
 impl Replica {
-    /// A replica that received no record. There are at most as many distinct terms as the limit says; they are found by hashes under these
-    /// keys.
+    /// A replica that received no record, with this limit on distinct terms. Terms are found by hashes under these keys.
     pub fn new(alloc: Global, keys: RandomState, limit: u32) -> Result<Replica, OutOfMemory>
         ensures new { IfOk result (λ replica. replica ≡ nothing_received limit) }
         ensures follows { IfOk result (Follows []) }
@@ -110,8 +109,8 @@ impl Replica {
     /// Applies the next record, if it was received, and says whether it was.
     ///
     /// # Errors
-    /// There are more distinct terms than the limit says, or memory was refused. Nothing has changed then. Where the next record doesn't wait,
-    /// no memory is taken.
+    /// There would be more distinct terms than the limit, or memory is refused. Nothing has changed then. If the next record wasn't
+    /// received, no memory is taken.
     pub fn advance(&mut self) -> Result<bool, StoreFault>
         // It answers false exactly if the next record wasn't received.
         ensures answer { IfOk result (λ moved. (items : List TheRecord) → Follows items self.old → moved ≡ is_some (numbered (self.old.applied + 1) items)) }

@@ -42,7 +42,7 @@ impl TermState {
     }
 }
 
-/// What stands before the first space that isn't between quotes, and what behind it. Where a fit term and a space begin the bytes,
+/// The bytes before the first space that isn't between quotes, and the bytes after it. If the bytes begin with a fit term and a space,
 /// these are the term's text and the rest.
 pub fn split_term(bytes: &[u8]) -> Option<(&[u8], &[u8])>
     ensures parts { IfSome result (λ parts. bytes.now ≡ parts.0.now ++ 32 ∷ parts.1.now) }

@@ -1,6 +1,6 @@
 // A triple by the line that it has in a record.
 
-ghost use Rattle.std.specs.Prelude.{◌≡◌, ◌↔◌, ◌≤◌, ◌++◌, ◌∷◌, [], IfOk, IfSome, MatchOption, Some};
+ghost use Rattle.std.specs.Prelude.{◌≡◌, ◌↔◌, ◌≤◌, ◌++◌, ◌∷◌, [], IfOk, IfSome, IsTrue, MatchOption, Some};
 ghost use Rattle.rdf_term.specs.{declared.term.Term.Term as TheTerm, declared.triple.Triple.Triple as TheTriple, Text.term_text};
 ghost use Rattle.replica.specs.TripleLine.{AreTermTexts, IsTermText, IsTripleLine};
 
@@ -20,8 +20,8 @@ struct TermTexts<'a> {
     object: &'a [u8],
 }
 
-/// The triple of a line without its line feed. `None` where the line isn't the canonical text of a triple of fit terms that have
-/// at most 32 MiB each.
+/// The triple of a line without its line feed. `None` if the line isn't the canonical text of a triple of fit terms that have at most 32
+/// MiB each.
 pub fn read_triple(alloc: Global, line: &[u8]) -> Result<Option<Triple>, OutOfMemory>
     ensures { IfOk result (λ found. (triple : TheTriple) → (found ≡ Some triple) ↔ IsTripleLine line.now triple) }
 {
@@ -36,8 +36,15 @@ fn read_texts(alloc: Global, texts: TermTexts<'_>) -> Result<Option<Triple>, Out
     ensures { IfOk result (λ found. (triple : TheTriple) → (found ≡ Some triple) ↔ AreTermTexts texts.entry.subject.now texts.entry.predicate.now texts.entry.object.now triple) }
 {
     let subject = canonical_term(alloc, texts.subject)?;
-    let predicate = canonical_term(alloc, texts.predicate)?;
-    let object = canonical_term(alloc, texts.object)?;
+    let Ok(predicate) = canonical_term(alloc, texts.predicate) else {
+        drop(subject);
+        return Err(OutOfMemory);
+    };
+    let Ok(object) = canonical_term(alloc, texts.object) else {
+        drop(subject);
+        drop(predicate);
+        return Err(OutOfMemory);
+    };
     Ok(triple_of(subject, predicate, object))
 }
 
@@ -45,10 +52,25 @@ fn read_texts(alloc: Global, texts: TermTexts<'_>) -> Result<Option<Triple>, Out
 fn triple_of(subject: Option<Term>, predicate: Option<Term>, object: Option<Term>) -> Option<Triple>
     ensures { (triple : TheTriple) → (result ≡ Some triple) ↔ ((subject ≡ Some triple.subject) × (predicate ≡ Some triple.predicate) × (object ≡ Some triple.object)) }
 {
+    let Some(subject) = subject else {
+        drop(predicate);
+        drop(object);
+        return None;
+    };
+    let Some(predicate) = predicate else {
+        drop(subject);
+        drop(object);
+        return None;
+    };
+    let Some(object) = object else {
+        drop(subject);
+        drop(predicate);
+        return None;
+    };
     Some(Triple {
-        subject: subject?,
-        predicate: predicate?,
-        object: object?,
+        subject,
+        predicate,
+        object,
     })
 }
 
@@ -84,11 +106,24 @@ fn canonical_term(alloc: Global, bytes: &[u8]) -> Result<Option<Term>, OutOfMemo
     let Some(term) = read_term(alloc, text)? else {
         return Ok(None);
     };
-    let mut written = Vec::new(alloc);
-    write_term(&term, &mut written)?;
-    if written.as_slice() == bytes {
-        Ok(Some(term))
-    } else {
-        Ok(None)
+    match is_text_of(alloc, bytes, &term) {
+        Ok(true) => Ok(Some(term)),
+        Ok(false) => {
+            drop(term);
+            Ok(None)
+        }
+        Err(refused) => {
+            drop(term);
+            Err(refused)
+        }
     }
+}
+
+// Whether the bytes are the canonical text of the term.
+fn is_text_of(alloc: Global, bytes: &[u8], term: &Term) -> Result<bool, OutOfMemory>
+    ensures { IfOk result (λ same. IsTrue same ↔ (bytes.now ≡ term_text term.now)) }
+{
+    let mut written = Vec::new(alloc);
+    write_term(term, &mut written)?;
+    Ok(written.as_slice() == bytes)
 }

@@ -7,7 +7,7 @@ use crate::folders::check_fetch;
 use anyhow::Result;
 use delivery::Delivery;
 use drill::{DrillRevisions, deliveries};
-use entity_json::{DocumentFault, document};
+use entity_json::{DocumentFault, discard, document};
 use entity_model::{Document, EntityId, IdKind, Kind};
 use revisions::{NoRevision, Revisions};
 use std::alloc::Global;
@@ -111,7 +111,7 @@ fn counts_of_page(
 ) -> Result<Option<(EntityId, usize, usize)>, DocumentFault> {
     let document = document(alloc, item(1), page)?;
     let counts = counts(&document);
-    drop(document);
+    discard(document);
     Ok(counts)
 }
 

@@ -5,7 +5,7 @@ ghost use Rattle.entity_model.specs.Document.{IsDocumentOf};
 use crate::checks::{check, check_lines, halves};
 use crate::stores::triple_from;
 use anyhow::{Context, Result, bail};
-use entity_json::document;
+use entity_json::{discard, document};
 use entity_model::{Document, EntityId, MappingVersion};
 use entity_rdf::{direct_texts, direct_triples, dump_triples};
 use munger::munge;
@@ -25,7 +25,7 @@ fn check_dump(alloc: Global, id: EntityId, document: Document, want: &str) -> Re
         version: MappingVersion::One,
     };
     let dump = dump_triples(setting, id, 5, &document);
-    drop(document);
+    discard(document);
     check_lines(alloc, dump?, want)
 }
 
@@ -148,7 +148,7 @@ fn is_page_made_directly(setting: Setting, id: &str, page: &str) -> Option<bool>
     match document(setting.alloc, id, page.as_bytes()) {
         Ok(document) => {
             let made = is_made_directly(setting, id, &document);
-            drop(document);
+            discard(document);
             made
         }
         Err(_) => None,

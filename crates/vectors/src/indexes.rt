@@ -1,11 +1,12 @@
-// Keys that come to a set in blocks and go from it.
+// Keys that come to a set in blocks and go from it, and the greatest slots.
 
 ghost use Rattle.std.specs.Prelude.{◌≡◌, ◌<◌};
 
 use crate::checks::{check, halves};
-use anyhow::Result;
+use anyhow::{Result, bail};
 use block_index::BlockIndex;
-use comparison_steps::Steps;
+use comparison_steps::{Steps, Uncounted};
+use slot_index::{SlotIndex, SlotPattern};
 use slot_keys::Key;
 use std::alloc::Global;
 use std::marker::Brand;
@@ -103,4 +104,39 @@ fn check_calls<L: Ledger>(alloc: Global, blank: Blank) -> Result<()>
 
 pub(crate) fn keys_come_and_go(alloc: Global) -> Result<()> {
     check_calls::<Brand>(alloc, Blank::new(1))
+}
+
+// Stores the triple of the greatest slots in an index that has none, and asks for it by no slot and by two.
+fn check_greatest(index: &mut SlotIndex) -> Result<()> {
+    let key = Key {
+        first: u32::MAX,
+        second: u32::MAX,
+        third: u32::MAX,
+    };
+    if index.count(key, &mut Uncounted) > 0 {
+        bail!("a triple of an empty index");
+    }
+    index.raise(key, &mut Uncounted)?;
+    let any = SlotPattern {
+        first: None,
+        second: None,
+        third: None,
+    };
+    let two = SlotPattern {
+        first: Some(key.first),
+        second: Some(key.second),
+        third: None,
+    };
+    let found = (
+        index.range_len(any, &mut Uncounted),
+        index.range_len(two, &mut Uncounted),
+    );
+    check(found, (1, 1), "the greatest slots")
+}
+
+pub(crate) fn the_greatest_slots_are_found(alloc: Global) -> Result<()> {
+    let mut index = SlotIndex::new(alloc);
+    let checked = check_greatest(&mut index);
+    drop(index);
+    checked
 }

@@ -97,6 +97,8 @@ fn try_sets(rt: &HostRuntime, keys: RandomState, report: &mut Report) -> Result<
     let floor = horizons::what_is_below_the_floor_is_forgotten(alloc);
     report.note(rt, "what is below the floor is forgotten", floor)?;
     report.note(rt, "keys come and go", indexes::keys_come_and_go(alloc))?;
+    let greatest = indexes::the_greatest_slots_are_found(alloc);
+    report.note(rt, "the greatest slots are found", greatest)?;
     report.note(rt, "a pool fills up", pools::a_pool_fills_up(alloc, keys))?;
     report.note(
         rt,

@@ -100,7 +100,7 @@ fn check_row(found: (Option<bool>, bool), len: u32, row: &str, step: &str) -> Re
     Ok(())
 }
 
-// Checks one step.
+// Checks one step. The texts are short, so each term that is there has a block of the least class, and no other block is taken.
 fn check_step(alloc: Global, pool: &mut Pool, region: &mut Region, step: &str) -> Result<()>
     requires { LiesIn pool.old region.old }
     ensures { OnOk result (LiesIn pool.new region.new) }
@@ -111,7 +111,8 @@ fn check_step(alloc: Global, pool: &mut Pool, region: &mut Region, step: &str) -
     let full = is_full_for_call(pool, region, sign, &term);
     let there = pool.find(region, &term).is_some();
     drop(term);
-    check_row((full, there), pool.len(), row, step)
+    check_row((full, there), pool.len(), row, step)?;
+    check(region.live(0), u64::from(pool.len()), step)
 }
 
 // Checks all steps in turn.

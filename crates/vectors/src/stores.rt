@@ -182,9 +182,9 @@ fn check_step(alloc: Global, store: &mut Store, step: &str) -> Result<()> {
     let (sign, words) = halves(call, " ")?;
     let triple = triple_of(alloc, words).context("a triple, or memory")?;
     let full = is_full_for_call(alloc, store, sign, &triple);
-    check(full, Some(sign == "!"), step)?;
     let checked = check_counts(store, &triple, counts, step);
     drop(triple);
+    check(full, Some(sign == "!"), step)?;
     checked
 }
 

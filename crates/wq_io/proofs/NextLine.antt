@@ -2,8 +2,8 @@
 use Rattle.std.proofs.Common.{refl, sym, ◌∙◌, ap, ◌≡◌, ◌↔◌, ℕ, ◌+◌, ◌<◌, ◌≤◌, Bool, true, false, List, [], ◌∷◌, Option, Some, None, IfSome, IsNone, MatchOption, ◌++◌, length, arith, append_assoc, length-append}
 use Rattle.std.proofs.lemmas.List.{take-append-le, append-nil}
 use Rattle.wq_io.specs.Streams.{AreFewEmpty, before_known, IsAtEnd, LastRead}
-use Rattle.wq_io.specs.Lines.{Reading, IsSound, IsOneLine, IsLineLong, GivesLine, HasCause, ReadsAsNeeded, TakesBytes, line_feed, lines, input_lines, before_lines, unread, room}
-use Rattle.wq_io.specs.Taking.{HasByte, IsOverLong, IsLeftHeld, ReadsByNeed, TakesHeld}
+use Rattle.wq_io.specs.Lines.{Reading, IsSound, IsOneLine, IsPartOfLine, IsLineLong, StopsInLine, GivesLine, HasCause, ReadsAsNeeded, TakesBytes, line_feed, lines, input_lines, before_lines, unread, room}
+use Rattle.wq_io.specs.Taking.{HasByte, IsUnreadable, IsOverLong, IsLeftHeld, ReadsByNeed, TakesHeld}
 use Rattle.wq_io.specs.declared.lines.LineFault.{LineFault}
 use Rattle.wq_io.specs.declared.lines.LineFault.TheVariants.{ReadFault, TooLong, LineLong, OutOfMemory}
 use Rattle.wq_io.proofs.NeededReads.{HasRead, read_more, reads_as_needed, still_few, went_by}
@@ -32,6 +32,26 @@ nothing_before line (Some xs) = refl
 pub not_true : (old new : Bool) → (old ≡ true → new ≡ true) → new ≡ false → old ≡ false
 not_true true new still is = sym (still refl) ∙ is
 not_true false new still is = refl
+
+module _ (start now : Reading) (left_start left : Option (List ℕ)) (line : List ℕ) (faults_start faults : ℕ) (most_start most : Option ℕ)
+    (read_start read : Option LastRead) (going : Going start now left_start left line faults_start faults most_start most read_start read) where
+  line_within : length line ≤ room start
+  line_within = omega (arith, going.sound.within, ap (λ (r : Reading). r.consumed) going.others, ap (λ (r : Reading). r.max_bytes) going.others)
+
+  -- the line so far is a first part of a line
+  pub part_so_far : IsPartOfLine start left_start line
+  part_so_far = record { others = unread now left; front = going.front; in_line = going.in_line; within = line_within; short = going.short }
+
+  -- a read that failed left the rest
+  pub stops_here : (left_now : Option (List ℕ)) → IsUnreadable now left left_now → StopsInLine start left_start left_now
+  stops_here left_now failed = record {
+    part = line;
+    front = going.front ∙ ap (λ (h : List ℕ). before_known line (before_known h left)) failed.empty ∙ nothing_before line left ∙ ap (before_known line) (sym failed.same);
+    in_line = going.in_line;
+    within = line_within;
+    short = going.short;
+    going = not_true start.ended now.ended going.still failed.going;
+  }
 
 last_line : (u left line : List ℕ) (n : ℕ) → u ≡ line ++ left → left ≡ [] → IsOneLine line → (line ≡ [] → IsNone {T = ℕ} (Some n)) →
     lines u ≡ line ∷ lines left

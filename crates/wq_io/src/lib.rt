@@ -2,10 +2,11 @@
 //!
 //! `source` and `sink` are the two traits of the outside. What an object of them has left, last read, or holds is told to
 //! contracts where it can be known, as for the objects in `memory`; the adapters of `streams` tell nothing. `lines`
-//! splits a source at its line feeds.
+//! splits a source at its line feeds, which `line_end` finds.
 #![tactic(auto)]
 
 mod failing;
+mod line_end;
 mod lines;
 mod memory;
 mod sink;

@@ -23,7 +23,7 @@ returns c e is_document =
     let old_within = same_bools c.has_entities-old_within.result within c.if-old_within-within.false in
     let new_within = same_bools c.has_entities-new_within.result within c.if-new_within-within.false in
     let known = (documents c.args.id old (AnEntity e)).0 is_document in
-    has_changed c.args.id old new e c.in_ok-gone.gone c.in_ok-come.come within differing is_document short
+    has_changed c.args.id old new e c.in_ok-gone.gone c.in-Some.come within differing is_document short
     (subst (λ (n : ℕ). AreDiffering n old new differing) c.depth_of-depth.ensures (c.in_ok-differing.ensures known.tree known.has_tree.reads known.has_tree.not_deep))
     (sym c.has_entities-old_within.ensures ∙ old_within) (sym c.has_entities-new_within.ensures ∙ new_within)
-    c.in_ok-gone.ensures c.in_ok-come.ensures
+    c.in_ok-gone.ensures c.in-Some.ensures

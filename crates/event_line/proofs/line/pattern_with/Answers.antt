@@ -2,8 +2,8 @@
 use Rattle.std.proofs.Common.{rules}
 use Rattle.event_line.proofs.line.pattern_with.Goals as goal
 
-pub returns-in_err-wanted_term-2 : goal.returns-in_err-wanted_term-2
-returns-in_err-wanted_term-2 c = search rules
+pub returns-in-Err : goal.returns-in-Err
+returns-in-Err c = search rules
 
-pub returns-in_err-wanted_term-3 : goal.returns-in_err-wanted_term-3
-returns-in_err-wanted_term-3 c = search rules
+pub returns-in-Err-wanted_term : goal.returns-in-Err-wanted_term
+returns-in-Err-wanted_term c = search rules

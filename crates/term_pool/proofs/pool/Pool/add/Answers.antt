@@ -1,15 +1,53 @@
 -- A term that comes is in a slot that was empty, and its piece is one that wasn't live.
-use Rattle.std.proofs.Common.{◌≡◌, ◌≢◌, ◌∙◌, ℕ, ◌==◌, Some, ap, sym, subst, arith, refl}
+use Rattle.std.proofs.Common.{◌≡◌, ◌≢◌, ◌∙◌, ℕ, ◌<◌, ◌≤◌, ◌==◌, Some, ap, sym, subst, arith, refl}
 use Rattle.std.specs.HashMap.{get as map_get}
 use Rattle.slab.specs.Slab.{get, slab_len}
 use Rattle.term_pool.specs.Index.{Points, hash_of}
-use Rattle.term_pool.specs.Pool.{beside}
+use Rattle.term_pool.specs.Pool.{LiesIn, beside, count_of, text_in_slot}
 use Rattle.term_pool.proofs.OthersTexts.{beside_added, beside_same}
-use Rattle.term_pool.proofs.Lying.{interned_added, interned_from, lies_added, lies_same, nowhere_same}
+use Rattle.term_pool.proofs.Lying.{interned_added, interned_from, lies_added, lies_same, nowhere_same, same_counts, same_texts}
 use Rattle.term_pool.proofs.pool.Pool.add.Goals as goal
+
+above_full : {P : Type 0} (len terms limit : ℕ) → len < limit → len ≡ terms → limit ≤ terms → P
+above_full len terms limit below is above = absurd (omega arith)
+
+-- where there is no room in the pool
+pub returns-in_default-clause-lies : goal.returns-in_default-clause-lies
+returns-in_default-clause-lies c = lies_same c.args.self.now c.make_room.new.self c.args.region.now c.requires.lies c.make_room.ensures.same
+
+pub returns-in_default-clause-err : goal.returns-in_default-clause-err
+returns-in_default-clause-err c = record {
+  texts = same_texts c.args.self.now c.make_room.new.self c.args.region.now c.make_room.ensures.same;
+  counts = same_counts c.args.self.now c.make_room.new.self c.make_room.ensures.same;
+}
+
+pub returns-in_default-clause-full : goal.returns-in_default-clause-full
+returns-in_default-clause-full c = (λ is. absurd (cc), above_full _ _ _ c.if-len-self.false c.len.ensures)
+
+pub returns-in_default-clause-limit : goal.returns-in_default-clause-limit
+returns-in_default-clause-limit c = c.make_room.ensures.same.limit
 
 pub returns-in_default-clause-beside : goal.returns-in_default-clause-beside
 returns-in_default-clause-beside c = λ piece. beside_same c.args.self.now c.make_room.new.self c.args.region.now piece (ap (λ s. s.slots) c.make_room.ensures.same.slots)
+
+-- where there is none in the region
+pub returns-in_default-place-clause-lies : goal.returns-in_default-place-clause-lies
+returns-in_default-place-clause-lies c =
+    subst (LiesIn c.make_room.new.self) (sym c.in_default-place.ensures.err)
+    (lies_same c.args.self.now c.make_room.new.self c.args.region.now c.requires.lies c.make_room.ensures.same)
+
+pub returns-in_default-place-clause-err : goal.returns-in_default-place-clause-err
+returns-in_default-place-clause-err c = record {
+  texts = λ slot. ap (λ texts. text_in_slot c.make_room.new.self texts slot) c.in_default-place.ensures.err
+      ∙ same_texts c.args.self.now c.make_room.new.self c.args.region.now c.make_room.ensures.same slot;
+  counts = same_counts c.args.self.now c.make_room.new.self c.make_room.ensures.same;
+}
+
+pub returns-in_default-place-clause-full : goal.returns-in_default-place-clause-full
+returns-in_default-place-clause-full c = (λ is. absurd (cc), above_full _ _ _ c.if-len-self.false c.len.ensures)
+
+pub returns-in_default-place-clause-limit : goal.returns-in_default-place-clause-limit
+returns-in_default-place-clause-limit c = c.make_room.ensures.same.limit
 
 pub returns-in_default-place-clause-beside : goal.returns-in_default-place-clause-beside
 returns-in_default-place-clause-beside c = λ piece.
@@ -47,3 +85,12 @@ pub returns-clause-beside : goal.returns-clause-beside
 returns-clause-beside c = λ piece.
     beside_added c.make_room.new.self _ c.args.region.now c.place.new.self c.in-Ok.number (record { piece = c.in-Ok-place.piece; count = 1 }) (others c) c.in-Ok.ensures.room.vacant (there c) c.in-Ok-place.ensures.was_vacant c.in-Ok-place.ensures.updates.others piece
     ∙ beside_same c.args.self.now c.make_room.new.self c.args.region.now piece (ap (λ s. s.slots) c.make_room.ensures.same.slots)
+
+pub returns-clause-first : goal.returns-clause-first
+returns-clause-first c = ap count_of (there c)
+
+pub returns-clause-full : goal.returns-clause-full
+returns-clause-full c = (λ is. absurd (cc), above_full _ _ _ c.if-len-self.false c.len.ensures)
+
+pub returns-clause-limit : goal.returns-clause-limit
+returns-clause-limit c = c.make_room.ensures.same.limit

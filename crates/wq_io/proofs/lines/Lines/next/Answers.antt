@@ -4,7 +4,7 @@ use Rattle.std.proofs.lemmas.Result.{err_from_is_err_and}
 use Rattle.wq_io.specs.Streams.{before_known, IsAtEnd}
 use Rattle.wq_io.specs.Lines.{Reading}
 use Rattle.wq_io.specs.Taking.{HasByte, IsEnded, TakesHeld}
-use Rattle.wq_io.proofs.NextLine.{at_end, cause_of, going_gives, going_on, going_stops, last_counted, line_bytes, line_counted, line_ended}
+use Rattle.wq_io.proofs.NextLine.{at_end, cause_of, going_gives, going_on, going_stops, last_counted, line_bytes, line_counted, line_ended, part_so_far, stops_here}
 use Rattle.std.proofs.Common.{true, false, refl}
 use Rattle.wq_io.proofs.lines.Lines.next.Goals as goal
 
@@ -53,6 +53,24 @@ returns-then-branch-clause-bytes g c =
     let takes : TakesHeld c.has_byte.new.self c.take_held.new.self line c.take_held.new.line.items true = rw c.if-branch.true at c.in_ok-take_held.ensures.takes in
     let front = going.front ∙ ap (λ (u : Option (List ℕ)). before_known line u) (sym has.same) in
     rw (takes.line, c.count_line.ensures.counted, c.set_failed-then-branch.ensures.noted) (line_bytes _ _ left line takes.moved c.has_byte.new.self.held c.take_held.new.self.held front takes.held going.in_line takes.in_line)
+
+pub returns-in_err-has_byte-clause-part : goal.returns-in_err-has_byte-clause-part
+returns-in_err-has_byte-clause-part g c =
+    let p = err_from_is_err_and c.from_residual.result c.from_residual.ensures.1 in
+    rw p.1 (part_so_far _ _ _ _ _ _ _ _ _ _ _ c.loop-self.invariant)
+
+pub returns-then-is_at_limit-clause-part : goal.returns-then-is_at_limit-clause-part
+returns-then-is_at_limit-clause-part g c = part_so_far _ _ _ _ _ _ _ _ _ _ _ c.loop-self.invariant
+
+pub returns-in_err-take_held-clause-part : goal.returns-in_err-take_held-clause-part
+returns-in_err-take_held-clause-part g c =
+    let p = err_from_is_err_and c.from_residual-in_err-take_held.result c.from_residual-in_err-take_held.ensures.1 in
+    rw (p.1, c.in_err-take_held.ensures.kept (refl {a = true})) (part_so_far _ _ _ _ _ _ _ _ _ _ _ c.loop-self.invariant)
+
+pub returns-in_err-has_byte-clause-leaves : goal.returns-in_err-has_byte-clause-leaves
+returns-in_err-has_byte-clause-leaves g c =
+    let p = err_from_is_err_and c.from_residual.result c.from_residual.ensures.1 in
+    rw (p.1, p.2, c.in_err-has_byte.ensures.cause.0) (stops_here _ _ _ _ _ _ _ _ _ _ _ c.loop-self.invariant _ (c.in_err-has_byte.ensures.leaves (refl {a = true})))
 
 pub returns-in_err-has_byte-clause-reads : goal.returns-in_err-has_byte-clause-reads
 returns-in_err-has_byte-clause-reads g c =
