@@ -25,10 +25,18 @@ server=$!
 # shellcheck disable=SC2046 # words are split
 trap 'kill $server $(cat "$work"/process-* 2> /dev/null) 2> /dev/null; wait; rm -rf "$work"' EXIT
 ask() { redis-cli -p "$port" "$@"; }
-for _ in 1 2 3 4 5 6 7 8 9 10; do
-  ask ping > /dev/null 2>&1 && break
-  sleep 0.3
-done
+
+# Waits, for at most a minute, until a command succeeds.
+await() {
+  tries=600
+  until "$@"; do
+    tries=$((tries - 1))
+    [ $tries -gt 0 ] || { echo "not as expected: $1 isn't so after a minute"; tail -n 5 "$work/redis.log"; exit 1; }
+    sleep 0.1
+  done
+}
+redis_answers() { ask ping > /dev/null 2>&1; }
+await redis_answers
 
 # The events, with a watermark at their end, since a snapshot closes nothing.
 mkdir "$work/pages" "$work/snapshots"
@@ -57,12 +65,10 @@ start() {
 for process in 1 2 3 4; do start $process; done
 
 # One process is killed once each part has a snapshot.
-while [ "$(find "$work/snapshots" -name '*-*' ! -name '*.*' | wc -l)" -lt $parts ]; do sleep 0.1; done
-owner=
-while [ -z "$owner" ]; do
-  owner=$(ask get owner:2)
-  owner=${owner%%-*}
-done
+each_part_has_a_snapshot() { [ "$(find "$work/snapshots" -name '*-*' ! -name '*.*' | wc -l)" -ge $parts ]; }
+part_2_has_an_owner() { owner=$(ask get owner:2) && owner=${owner%%-*} && [ -n "$owner" ]; }
+await each_part_has_a_snapshot
+await part_2_has_an_owner
 kill -9 "$owner" || { echo "not as expected: no process has part 2"; exit 1; }
 echo "killed: the process $owner, in the middle of part 2"
 { tail -n +$((half + 1)) "$work/routed.txt"; for part in 0 1 2 3; do printf '%s\t{"end":true}\n' $part; done; } | put

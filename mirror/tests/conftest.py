@@ -1,6 +1,6 @@
 """What the tests share: a made-up wiki, a store behind SPARQL, and a mirror that is run by its commands."""
 
-import asyncio
+import contextlib
 import json
 import os
 import pathlib
@@ -9,7 +9,6 @@ import shutil
 import socket
 import subprocess
 import sys
-import tempfile
 import time
 import typing
 import urllib.parse
@@ -46,6 +45,22 @@ def started(*words: str) -> tuple[subprocess.Popen[str], str]:
     child = subprocess.Popen(words, stdout=subprocess.PIPE, text=True)
     assert child.stdout
     return child, child.stdout.readline().strip()
+
+
+def children_of(pid: int) -> list[int]:
+    """The processes that a process started."""
+    found = []
+    for path in pathlib.Path(f"/proc/{pid}/task").glob("*/children"):
+        with contextlib.suppress(OSError):
+            found += [int(text) for text in path.read_text().split()]
+    return found
+
+
+def peak_of(pid: int) -> int:
+    """The most memory that a process had, in bytes; 0 where it isn't there."""
+    with contextlib.suppress(OSError, IndexError):
+        return int(pathlib.Path(f"/proc/{pid}/status").read_text().split("VmHWM:")[1].split()[0]) * 1024
+    return 0
 
 
 class Wiki:
@@ -111,17 +126,6 @@ class Virtuoso:
         """Kills it."""
         self.child.kill()
         self.child.wait()
-
-
-def saving_program() -> tuple[str, dict[str, str]]:
-    """A wdq that saves on the way, and what its environment needs: the program, or what is made of one that can't."""
-    from wdq_mirror import program, settings
-
-    found = settings.Settings()
-    with tempfile.TemporaryDirectory() as folder:
-        can_save = asyncio.run(program.Program(found).saves_on_the_way(pathlib.Path(folder) / "scratch"))
-    path = program.find(found)
-    return (path, {}) if can_save else (str(TESTS / "saving_wdq.py"), {"WDQ_BELOW": path})
 
 
 class Mirror:

@@ -8,7 +8,7 @@ without a number), with some properties and lexemes, and about as many changes c
 page changes, pages by revision, and the API's `info`, `revisions`, `recentchanges` and `logevents`. It is as awkward as the real one may be: changes come out of order,
 late and again, connections are cut, and it is busy at times, once for each user agent. By `/control?name=number` it takes: `oldest`, the
 first message that the stream still has; `end`, the message before which it pauses; `rate`, how many messages a second come; `cuts`, how many
-connections are still to be cut; `is_down`, whether all requests are answered with 503. In FOLDER are
+connections are still to be cut; `is_down`, whether all requests are answered with 503; `is_mute`, whether those to the API are. In FOLDER are
 
     dump.json.gz   a dump, begun in the middle of the history and taken while it went on
     began          when that was
@@ -169,7 +169,7 @@ class Wiki(http.server.ThreadingHTTPServer):
         super().__init__(("127.0.0.1", 0), Answers)
         self.history, self.stream = history, stream
         self.asked, self.lock = collections.Counter(), threading.Lock()
-        self.control = {"oldest": 0, "end": len(stream), "rate": 500, "cuts": CUTS, "is_down": 0}
+        self.control = {"oldest": 0, "end": len(stream), "rate": 500, "cuts": CUTS, "is_down": 0, "is_mute": 0}
 
 
 class Answers(http.server.BaseHTTPRequestHandler):
@@ -186,7 +186,7 @@ class Answers(http.server.BaseHTTPRequestHandler):
         if url.path == "/control":
             self.server.control.update({key: int(value) for key, value in words.items()})
             self.send_json(self.server.control)
-        elif self.server.control["is_down"]:
+        elif self.server.control["is_down"] or (self.server.control["is_mute"] and url.path == "/w/api.php"):
             self.send_error(503)
         elif "@" not in self.headers.get("User-Agent", ""):
             self.send_error(403, "name yourself")

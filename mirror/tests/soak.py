@@ -57,7 +57,8 @@ class Soak:
     # --- What fails ---
 
     def kill_wdq(self) -> None:
-        for pid in self.children():
+        assert self.child
+        for pid in conftest.children_of(self.child.pid):
             os.kill(pid, signal.SIGKILL)
 
     def kill_mirror(self) -> None:
@@ -118,17 +119,6 @@ class Soak:
 
     # --- The run ---
 
-    def children(self) -> list[int]:
-        """The processes of the service: wdq."""
-        assert self.child
-        found = []
-        for path in pathlib.Path(f"/proc/{self.child.pid}/task").glob("*/children"):
-            try:
-                found += [int(text) for text in path.read_text().split()]
-            except OSError:
-                pass
-        return found
-
     def passed(self) -> int:
         """How many messages of the stream the home has taken."""
         base = sqlite3.connect(self.mirror.home / "state.db")
@@ -151,23 +141,16 @@ class Soak:
     def watch(self) -> None:
         """Notes the memory of the service and of wdq."""
         assert self.child
-        for pid in [self.child.pid, *self.children()]:
-            try:
-                status = pathlib.Path(f"/proc/{pid}/status").read_text()
-                self.peak = max(self.peak, int(status.split("VmHWM:")[1].split()[0]) * 1024)
-            except (OSError, IndexError):
-                pass
+        self.peak = max([self.peak, *map(conftest.peak_of, [self.child.pid, *conftest.children_of(self.child.pid)])])
 
     def begin(self) -> None:
         """Loads the dump. The stream takes three quarters of the time."""
         # The preloaded clock is for the service alone.
         path = self.work / "wdq"
-        wdq, needed = conftest.saving_program()
-        settings_of_wdq = "".join(f"export {name}={value}\n" for name, value in needed.items())
-        path.write_text(f'#!/bin/sh\nunset LD_PRELOAD\n{settings_of_wdq}exec {wdq} "$@"\n')
+        path.write_text(f'#!/bin/sh\nunset LD_PRELOAD\nexec {program.find(settings.Settings())} "$@"\n')
         path.chmod(0o755)
         self.mirror.init(self.wiki, "--path", str(path), *(("--store", self.store.url, "--counts") if self.store else ()))
-        self.mirror.set(delay_seconds=5, era_minutes=1, save_watermarks=100)
+        self.mirror.set(delay_seconds=5, save_watermarks=100)
         self.mirror.load(self.wiki)
         length = self.wiki.control()["end"]
         self.wiki.control(rate=max(1, int(length / (self.words.minutes * 45))))

@@ -1,8 +1,8 @@
 #!/usr/bin/python3
 """A store of rdflib behind the SPARQL 1.1 protocol, in memory, on the loopback address.
 
-A POST is an update or, by its content type, a query (answered in JSON). A GET gives a graph, ?graph=, as sorted N-Triples, and a PUT replaces
-it. Literals are kept as they are spelled. An answer has at most --rows rows, as those of some stores do, without a word. It prints its URL
+A POST is by its content type an update, a query (answered in JSON), or triples for a graph, ?graph=. A GET gives a graph as sorted N-Triples.
+Literals are kept as they are spelled. An answer has at most --rows rows, as those of some stores do, without a word. It prints its URL
 once it is up. Needs Debian's package python3-rdflib.
 """
 
@@ -51,6 +51,8 @@ class Handler(http.server.BaseHTTPRequestHandler):
         text = self.body()
         if self.headers["Content-Type"] == "application/x-www-form-urlencoded":
             self.answer(lambda: self.query(urllib.parse.parse_qs(text)["query"][0]), "application/sparql-results+json")
+        elif self.headers["Content-Type"] == "application/n-triples":
+            self.answer(lambda: self.add(text), "text/plain")
         else:
             self.answer(lambda: self.server.store.update(text) or b"", "text/plain")
 
@@ -63,12 +65,7 @@ class Handler(http.server.BaseHTTPRequestHandler):
     def graph(self):
         return self.server.store.graph(rdflib.URIRef(urllib.parse.parse_qs(urllib.parse.urlsplit(self.path).query)["graph"][0]))
 
-    def do_PUT(self):
-        text = self.body()
-        self.answer(lambda: self.replace(text), "text/plain")
-
-    def replace(self, text):
-        self.graph().remove((None, None, None))
+    def add(self, text):
         self.graph().parse(data=text, format="nt")
         return b""
 

@@ -10,17 +10,17 @@ import time
 import typing
 import urllib.request
 
-import pytest
-from conftest import PYTHON, TESTS, Mirror, Wiki, free_port, saving_program, settle
+from conftest import PYTHON, TESTS, Mirror, Wiki, children_of, free_port, settle
 
 from wdq_mirror import snapshot
 
 
 @contextlib.contextmanager
 def running(mirror: Mirror, *words: str) -> typing.Iterator[subprocess.Popen[str]]:
-    """The service while it runs; stopped by SIGTERM, if it still runs."""
+    """The service while it runs, as if at a terminal of its own; stopped by SIGTERM, if it still runs."""
     log = open(mirror.home.parent / "log", "a")
-    child = subprocess.Popen([PYTHON, str(TESTS.parent / "wdq-mirror"), "--home", str(mirror.home), "run", *words], stderr=log, text=True)
+    command = [PYTHON, str(TESTS.parent / "wdq-mirror"), "--home", str(mirror.home), "run", *words]
+    child = subprocess.Popen(command, stderr=log, text=True, start_new_session=True)
     try:
         yield child
     finally:
@@ -40,30 +40,65 @@ def wait_for(what: typing.Callable[[], bool], seconds: float = 60) -> bool:
     return what()
 
 
-def children_of(pid: int) -> list[int]:
-    """The processes that a process started."""
-    return [int(text) for path in pathlib.Path(f"/proc/{pid}/task").glob("*/children") for text in path.read_text().split()]
+def figure(port: int, name: str) -> float:
+    """A figure of the service, 0 while it doesn't answer."""
+    with contextlib.suppress(OSError), urllib.request.urlopen(f"http://127.0.0.1:{port}/metrics") as answer:
+        return float(answer.read().decode().split(f"\nwdq_{name} ")[1].split("\n")[0])
+    return 0.0
 
 
 def test_a_quiet_stream_is_applied_to_its_end(wiki: Wiki, mirror: Mirror) -> None:
-    """The last seconds of the stream don't wait for another message."""
+    """The last seconds of the stream don't wait for another message, and one wdq takes all of it."""
     mirror.init(wiki).load(wiki)
     mirror.set(delay_seconds=2)
     last = sorted(change for change in (wiki.folder / "stream.txt").read_text().split('"dt": "')[1:])[-1][:19]
+    end = calendar.timegm(time.strptime(last, "%Y-%m-%dT%H:%M:%S"))
     port = free_port()
-
-    def mark() -> float:
-        with contextlib.suppress(OSError), urllib.request.urlopen(f"http://127.0.0.1:{port}/metrics") as answer:
-            return float(answer.read().decode().split("\nwdq_mark ")[1].split("\n")[0])
-        return 0.0
-
     with running(mirror, "--http", f"127.0.0.1:{port}") as child:
-        assert wait_for(lambda: mark() > calendar.timegm(time.strptime(last, "%Y-%m-%dT%H:%M:%S"))), mark()
+        assert wait_for(lambda: figure(port, "mark") > end), figure(port, "mark")
+        assert figure(port, "events_total") > 50 and figure(port, "starts_total") == 1
         with urllib.request.urlopen(f"http://127.0.0.1:{port}/") as answer:
             assert "The last records" in answer.read().decode()
     assert child.returncode == 0
     settle(mirror, wiki)
     mirror.good("verify")
+
+
+def test_a_gap_while_the_service_runs(wiki: Wiki, mirror: Mirror) -> None:
+    """It is a figure, and the watermark waits; once the wiki says what changed, the service goes on by itself."""
+    mirror.init(wiki).load(wiki)
+    mirror.set(delay_seconds=0, tries=1, pause_seconds=0.2)
+    length = wiki.control()["end"]
+    wiki.control(end=length - 60)
+    port = free_port()
+    with running(mirror, "--http", f"127.0.0.1:{port}"):
+        assert wait_for(lambda: figure(port, "events_total") > 10 and figure(port, "mark") > 0)
+        wiki.control(is_mute=1, is_down=1)
+        assert wait_for(lambda: not figure(port, "stream_up"))
+        events = figure(port, "events_total")
+        wiki.control(is_down=0, oldest=length - 20, end=length)
+        assert wait_for(lambda: figure(port, "gap") == 1 and figure(port, "events_total") > events)
+        mark = figure(port, "mark")
+        time.sleep(1)
+        assert figure(port, "gap") == 1 and figure(port, "mark") == mark
+        with urllib.request.urlopen(f"http://127.0.0.1:{port}/") as answer:
+            assert "The stream lost what changed from" in answer.read().decode()
+        wiki.control(is_mute=0)
+        assert wait_for(lambda: figure(port, "gap") == 0 and figure(port, "mark") > mark)
+    settle(mirror, wiki)
+    mirror.good("verify")
+
+
+def test_ctrl_c(wiki: Wiki, mirror: Mirror) -> None:
+    """A terminal sends it to all processes in front of it; wdq saves all the same."""
+    mirror.init(wiki).load(wiki)
+    with running(mirror) as child:
+        assert wait_for(lambda: bool(children_of(child.pid)))
+        time.sleep(1)
+        os.killpg(child.pid, signal.SIGINT)
+        assert child.wait(timeout=60) == 0
+    log = (mirror.home.parent / "log").read_text()
+    assert "stopped after era 1; all is saved" in log and "ended by signal" not in log
 
 
 def test_wdq_and_the_service_are_killed(wiki: Wiki, mirror: Mirror) -> None:
@@ -88,15 +123,12 @@ def check_last_era(home: pathlib.Path) -> None:
     """Looks whether the journal of the last era has as many lines as its snapshot says."""
     before, last = (snapshot.read_head(path).lines for path in sorted(home.glob("snapshots/??????"))[-2:])
     lines = sorted(home.glob("events/*.jsonl"))[-1].read_bytes().count(b"\n")
-    assert last - before == lines > 0
+    assert last - before == lines and before > 0
 
 
-def test_a_wdq_that_saves_on_the_way(wiki: Wiki, mirror: Mirror, monkeypatch: pytest.MonkeyPatch) -> None:
-    """Eras end at its saves, while it goes on, though it and the service are killed."""
-    path, environment = saving_program()
-    for name, value in environment.items():
-        monkeypatch.setenv(name, value)
-    mirror.init(wiki, "--path", path).load(wiki)
+def test_eras_end_at_saves(wiki: Wiki, mirror: Mirror) -> None:
+    """wdq goes on meanwhile, though it and the service are killed."""
+    mirror.init(wiki).load(wiki)
     mirror.set(delay_seconds=2, save_watermarks=5)
     wiki.control(rate=40)
     for turn in range(2):

@@ -1,13 +1,17 @@
 """The modules, one by one."""
 
+import argparse
+import asyncio
 import hashlib
 import pathlib
 import sqlite3
+import typing
 
 import pytest
 from conftest import Mirror
 
-from wdq_mirror import articles, asking, counts, errors, event_lines, home, loading, records, settings, stream, terms, times, verifying
+from wdq_mirror import articles, asking, counts, errors, event_lines, figures, healing, home, inquiries, loading, outbox, records, sending, settings
+from wdq_mirror import snapshot, spelling, stores, stream, terms, times, verifying
 from wdq_mirror.stores import sparql
 
 DECIMAL = "http://www.w3.org/2001/XMLSchema#decimal"
@@ -50,6 +54,10 @@ def test_settings_that_are_wrong(text: str, said: str) -> None:
     assert said in str(found.value)
 
 
+def test_settings_of_older_homes_are_passed_over() -> None:
+    assert settings.parse("[program]\nera_minutes = 60\nera_events = 5\ndoubt_minutes = 10") == settings.Settings()
+
+
 def test_an_agent_that_names_nobody() -> None:
     with pytest.raises(errors.Usage):
         settings.check_agent(settings.parse("[wiki]\nagent = 'mirror/1.0'"))
@@ -89,7 +97,7 @@ def test_two_processes_do_not_change_a_home(tmp_path: pathlib.Path) -> None:
 def test_a_page_that_was_given_up_comes_back_with_the_next_era(tmp_path: pathlib.Path) -> None:
     one = made(tmp_path / "home")
     one.give_up(home.Wanted(2**64 - 1, "Q1", 5), 1)
-    assert one.is_given_up(2**64 - 1) and one.goes_without_pages()
+    assert one.is_given_up(2**64 - 1)
     one.close_era(home.Era(1, home.Position(0, "a"), ""))
     assert not one.is_given_up(2**64 - 1)
 
@@ -140,7 +148,52 @@ def test_lines_that_are_no_triples(line: str) -> None:
 @pytest.mark.parametrize("text", ["plain", "two\twords", "\x7f", "na\u00efve \u6771\u4eac \U0001f600", "a\u00a0b", "a\u2028b"])
 def test_a_load_spells_as_updates_do(text: str) -> None:
     line = f'<urn:a> <urn:b> "{text}"@en .'
-    assert loading.Speller(articles.Articles("wdq"), None).take(line) == [terms.read_triple(line).sparql()]
+    assert spelling.spell([line], articles.Articles("wdq"), False).lines == [terms.read_triple(line).sparql()]
+
+
+def test_a_load_counts_as_updates_do(tmp_path: pathlib.Path) -> None:
+    objects = ["<urn:c>", f"<urn:{'c' * 1800}>", '"a"', '"a"@en', '"a"@EN', '"a"@en-GB', '"a \\"b\\""@en', '"tab\there"@en', '"na\u00efve\u00a0"@fr', '""@en']
+    objects += [f'"{text}"^^<{kind}>' for text in ("5", "+5.0", "5.00", "x") for kind in (DECIMAL, "urn:other", terms.XSD + "string", terms.UNREAD)]
+    lines = [f"<urn:{subject}> <urn:p> {text} ." for subject in "ab" for text in objects]
+    one = counts.Counts(tmp_path / "counts.db", "home")
+    sent = [line for line in (one.change(terms.read_triple(line), True) for line in lines) if line]
+    spelled = spelling.spell(lines, articles.Articles("wdq"), True)
+    assert spelled.lines == sent
+    assert sorted(spelled.counts) == one.base.execute("SELECT value, triples, sent FROM counts ORDER BY value").fetchall()
+
+
+def test_an_export_is_cut_where_a_subject_ends() -> None:
+    assert loading.end_of_subjects([]) == 0
+    assert loading.end_of_subjects(["<urn:a> 1", "<urn:a> 2"]) == 0
+    assert loading.end_of_subjects(["<urn:a> 1", "<urn:b> 1", "<urn:b> 2"]) == 1
+
+
+def test_parts_are_worked_on_side_by_side_and_the_first_failure_ends_all() -> None:
+    async def parts() -> typing.AsyncIterator[list[str]]:
+        for start in range(0, 25, 5):
+            yield list(map(str, range(start, start + 5)))
+
+    running, most, done = 0, 0, list[list[str]]()
+
+    async def work(part: list[str]) -> None:
+        nonlocal running, most
+        running += 1
+        most = max(most, running)
+        await asyncio.sleep(0.01)
+        running -= 1
+        if part == ["8", "9"]:
+            raise errors.Unreachable("full")
+        done.append(part)
+
+    async def failing() -> None:
+        await sparql.each(sparql.parts_of(parts(), 2), 3, work)
+
+    with pytest.raises(errors.Unreachable):
+        asyncio.run(failing())
+    assert most == 3 and ["24"] not in done
+    done.clear()
+    asyncio.run(sparql.each(sparql.parts_of(parts(), 7), 3, work))
+    assert sorted(len(part) for part in done) == [4, 7, 7, 7] and sorted(map(int, sum(done, []))) == list(range(25))
 
 
 def decimal(text: str) -> terms.Triple:
@@ -211,6 +264,44 @@ def test_rows_of_a_match_have_articles_where_subjects_stand() -> None:
     assert answers.spelled(row) == "# row <https://a.org/wiki/O_%28c%29> <https://a.org/wiki/S_(c)>"
 
 
+# --- What the wiki says ---
+
+
+def waiting(kind: str, revision: int, time: str) -> dict[str, typing.Any]:
+    """An event of Q1 that isn't applied yet."""
+    return {"kind": kind, "entity": "Q1", "rev": revision, "time": time}
+
+
+def test_what_the_wiki_says_comes_behind_what_waits() -> None:
+    held = snapshot.Snapshot(times.micros("2024-05-01T10:00:00Z"), 0, [], {"Q1": snapshot.Record("kept", 5, 5, None)})
+    held.waiting = [waiting("edit", 9, "2024-05-01T10:00:08Z"), waiting("edit", 7, "2024-05-01T10:00:05Z")]
+    first, second, mark = healing.now_true({"Q1": 0, "Q2": 4}, held)
+    assert (first["time"], first["mode"], first["rev"]) == ("2024-05-01T10:00:08Z", "deleted", 9)
+    assert (second["time"], second["mode"], second["rev"]) == ("2024-05-01T10:00:00.000001Z", "kept", 4)
+    assert mark == {"watermark": "2024-05-01T10:00:00.000001Z"}
+    # The dump and the home may agree, and what waits may differ.
+    assert healing.differs(held, "Q1", 5) and healing.differs(held, "Q2", 4) and not healing.differs(held, "Q2", 0)
+
+
+def test_what_the_wiki_says_to_the_service_comes_behind_what_was_known(tmp_path: pathlib.Path) -> None:
+    class Busy:
+        async def present(self, entities: list[str]) -> dict[str, int]:
+            return {entity: 9 for entity in entities}
+
+    async def ask() -> list[dict[str, typing.Any]]:
+        asking = inquiries.Inquiries(made(tmp_path / "home"), typing.cast(typing.Any, Busy()))
+        asking.held.waiting = [waiting("edit", 9, "2024-05-01T10:00:08Z")]
+        asking.doubtful = {"Q1", "Q2"}
+        mark = times.micros("2024-05-01T10:00:00Z")
+        asking.ask(mark)
+        assert asking.asking
+        await asking.asking
+        return asking.answer(mark)[0]
+
+    found = {event["entity"]: event["time"] for event in asyncio.run(ask())}
+    assert found == {"Q1": "2024-05-01T10:00:08Z", "Q2": "2024-05-01T10:00:00.000001Z"}
+
+
 # --- The stream ---
 
 
@@ -242,6 +333,37 @@ def test_messages_of_server_sent_events() -> None:
     parser = stream.Messages()
     found = [told for line in ("id: 7", "data: a", "data:b", "", ": heartbeat", "", "event: error", "data: x", "") if (told := parser.take(line))]
     assert found == [("a\nb", "7")]
+
+
+def test_the_changes_of_one_wiki() -> None:
+    change = {"wiki_id": "testwikidatawiki", "page_change_kind": "edit", "dt": "2024-05-01T10:00:05Z", "revision": {"rev_id": 7}}
+    change["page"] = {"page_title": "Q5", "namespace_id": 0}
+    assert stream.event_of(change, settings.Settings()) is None
+    found = stream.event_of(change, settings.parse('[wiki]\nname = "testwikidatawiki"'))
+    assert found == {"kind": "edit", "entity": "Q5", "rev": 7, "time": "2024-05-01T10:00:05Z"}
+
+
+def test_a_record_that_is_alone_does_not_wait(tmp_path: pathlib.Path) -> None:
+    """Updates have a limit of time, beside that of records."""
+    taken: list[list[str]] = []
+
+    class Store:
+        async def apply(self, removes: list[str], adds: list[str], marks: stores.Marks) -> None:
+            taken.append(adds)
+
+    async def send() -> None:
+        one = made(tmp_path / "home")
+        one.close_era(home.Era(0, home.Position(0, "a"), ""))
+        box = outbox.Outbox(typing.cast(typing.Any, argparse.Namespace(home=one)), figures.Figures())
+        marks = stores.Marks(home.Position(0, "a"), one.identity, "urn:wdq:triples", False)
+        box.sender = sending.Sender(one, typing.cast(typing.Any, Store()), marks, marks.position)
+        sent = asyncio.create_task(box.run())
+        await box.put(next(iter(records.read_records([b"# patch 1 +1 -0\n", b"<urn:a> <urn:b> <urn:c> .\n"]))))
+        await asyncio.sleep(1)
+        sent.cancel()
+
+    asyncio.run(send())
+    assert taken == [["<urn:a> <urn:b> <urn:c> ."]]
 
 
 def test_times() -> None:

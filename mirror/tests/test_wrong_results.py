@@ -1,6 +1,11 @@
 """What would make a store wrong without a word is refused, and the message says what to do."""
 
+import contextlib
+import pathlib
 import shutil
+import socket
+import time
+import typing
 import urllib.request
 
 from conftest import Mirror, Wiki, export_of, settle, stored
@@ -127,3 +132,109 @@ def test_shards_share_a_store(wiki: Wiki, mirror: Mirror, endpoint: str) -> None
     assert sorted(together) == export_of(wiki)
     for part in parts:
         part.good("verify")
+
+
+# --- What is lost or set back has an end, and it is named ---
+
+
+@contextlib.contextmanager
+def hung_store() -> typing.Iterator[str]:
+    """The address of a store that takes each connection and never answers."""
+    with socket.socket() as listening:
+        listening.bind(("127.0.0.1", 0))
+        listening.listen()
+        yield f"http://127.0.0.1:{listening.getsockname()[1]}/"
+
+
+def test_a_hung_store(wiki: Wiki, mirror: Mirror, endpoint: str) -> None:
+    mirror.init(wiki, "--store", endpoint).load(wiki)
+    with hung_store() as url:
+        mirror.set(update=url, timeout_seconds=1)
+        begun = time.monotonic()
+        assert mirror.run("update") == 3
+        assert "gave no answer in 1 seconds" in mirror.told and "store.timeout_seconds" in mirror.told
+        assert time.monotonic() - begun < 60
+    mirror.set(update=endpoint, timeout_seconds=600)
+    mirror.step()
+    mirror.good("verify")
+
+
+def last_of(mirror: Mirror, folder: str) -> pathlib.Path:
+    """The newest file of a folder of the home."""
+    return max((mirror.home / folder).iterdir())
+
+
+def test_a_lost_snapshot(wiki: Wiki, mirror: Mirror) -> None:
+    mirror.init(wiki).load(wiki)
+    mirror.step()
+    backup = str(mirror.home.parent / "backup.tar.gz")
+    mirror.good("backup", backup)
+    mirror.step()
+    last_of(mirror, "snapshots").unlink()
+    for command in ("step", "verify", "reload"):
+        assert mirror.run(command) == 4 and "wdq-mirror restore" in mirror.told
+    restored = Mirror(mirror.home.parent / "restored")
+    assert "wdq-mirror reload" in restored.good("restore", backup)
+    restored.good("reload")
+    settle(restored, wiki)
+
+
+def test_lost_records(wiki: Wiki, mirror: Mirror, endpoint: str) -> None:
+    """Records that the store needs aren't there: it is filled anew."""
+    mirror.init(wiki, "--store", endpoint).load(wiki)
+    mirror.set(update="http://127.0.0.1:9/", query=endpoint, tries=1)
+    assert mirror.run("step", "--idle", "1") == 3
+    mirror.set(update=endpoint)
+    last_of(mirror, "records").unlink()
+    assert mirror.run("update") == 4 and "wdq-mirror reload" in mirror.told
+    mirror.good("reload")
+    mirror.step()
+    mirror.good("verify")
+
+
+def test_lost_events(wiki: Wiki, mirror: Mirror) -> None:
+    """A batch that the stream has passed is removed before it was taken: this is a gap."""
+    mirror.init(wiki).load(wiki)
+    path = mirror.home / "wdq"
+    path.write_text("#!/bin/sh\nexit 3\n")
+    path.chmod(0o755)
+    mirror.set(path=str(path))
+    assert mirror.run("step", "--idle", "1") == 3
+    mirror.set(path="")
+    last_of(mirror, "events").unlink()
+    mirror.step()
+    assert "has lost events" in mirror.told and "\ngap " not in mirror.good("status")
+    settle(mirror, wiki)
+
+
+def test_a_home_that_is_set_back(wiki: Wiki, mirror: Mirror) -> None:
+    """A backup is older than the store."""
+    mirror.init(wiki).load(wiki)
+    backup = str(mirror.home.parent / "backup.tar.gz")
+    mirror.good("backup", backup)
+    mirror.step()
+    older = Mirror(mirror.home.parent / "older")
+    older.good("restore", backup)
+    shutil.copy(mirror.home / "store.db", older.home / "store.db")
+    for command in ("step", "update"):
+        assert older.run(command) == 4 and "as if from a backup: run wdq-mirror reload" in older.told
+    older.good("reload")
+    settle(older, wiki)
+    older.good("verify")
+
+
+def test_old_records_are_forgotten(wiki: Wiki, mirror: Mirror) -> None:
+    """The home keeps what the last eras need, and the last snapshot fills a store anew."""
+    mirror.init(wiki).load(wiki)
+    mirror.set(keep_eras=1)
+    for end in range(60, 0, -15):
+        wiki.control(end=wiki.control()["end"] - 15)
+    for _ in range(4):
+        wiki.control(end=wiki.control()["end"] + 15)
+        mirror.step()
+    assert [len(list((mirror.home / folder).iterdir())) for folder in ("events", "records", "snapshots")] == [1, 1, 2]
+    (mirror.home / "store.db").unlink()
+    assert mirror.run("step") == 4 and "wdq-mirror reload" in mirror.told
+    mirror.good("reload")
+    mirror.good("verify")
+    settle(mirror, wiki)

@@ -12,6 +12,7 @@ import typing
 from . import __version__, settings as settings_of
 from .articles import SPELLINGS
 from .errors import STATUSES, MirrorError, Unreachable, Usage
+from .event_lines import moment
 
 BEGIN = """
 To begin (the home is the folder wikidata, or that of --home, or of $WDQ_MIRROR):
@@ -55,7 +56,9 @@ def command_init(words: argparse.Namespace) -> int:
     from . import home
 
     home.make(words.home, agent_of(words))
-    print(f"made {words.home}; its settings are in {words.home / settings_of.FILE}. Next: wdq-mirror load DUMP")
+    print(f"made {words.home}; its settings are in {words.home / settings_of.FILE}. Next: wdq-mirror load --began TIME DUMP")
+    if not words.agent:
+        print(f"before wdq-mirror run or step, set wiki.agent in {settings_of.FILE}: the wiki demands to know who asks")
     return 0
 
 
@@ -82,6 +85,7 @@ class Session:
             self.home.last_era()
         if is_locked:
             self.home.lock()
+            self.home.note_lost_events()
 
     async def __aenter__(self) -> typing.Any:
         from .program import Program
@@ -111,10 +115,7 @@ class Session:
 async def command_load(words: argparse.Namespace) -> int:
     """Loads a dump into the home, and the home into the store."""
     from . import loading
-    from .event_lines import moment
 
-    if words.began:
-        moment(words.began)
     async with Session(words) as session:
         home = session.home
         await loading.check_target(home, session.store, words.clear)
@@ -143,7 +144,8 @@ async def command_step(words: argparse.Namespace) -> int:
         before = session.home.last_era().position.number
         limits = stepping.Limits(words.seconds, words.events, words.idle)
         era = await stepping.step(session.tools(), words.batch, limits)
-        print(f"era {era.number}: records {before + 1} to {era.position.number}, up to {era.mark}")
+        count = era.position.number - before
+        print(f"era {era.number}: {count} new records{f', up to {era.position.number}' if count else ''}; applied up to {era.mark or 'no watermark yet'}")
     return 0
 
 
@@ -180,11 +182,7 @@ async def command_verify(words: argparse.Namespace) -> int:
 async def command_heal(words: argparse.Namespace) -> int:
     """Heals gaps."""
     from . import sending, stepping
-    from .event_lines import moment
 
-    for text in (words.since, words.until, words.began):
-        if text:
-            moment(text)
     if bool(words.since) != bool(words.until):
         raise Usage("--since and --until go together: between these times the wiki is asked what changed")
     if bool(words.dump) != bool(words.began):
@@ -202,6 +200,9 @@ async def command_heal(words: argparse.Namespace) -> int:
         else:
             asked = await (stepping.heal_all(tools) if words.all else stepping.heal(tools))
         await sending.update(home, session.store)
+        if not (gaps or words.all or words.dump):
+            print("the stream has no gap: there is nothing to heal")
+            return 0
         healed = [gap for gap in gaps if gap not in home.gaps()]
         spans = ", ".join(f"{gap.began} to {gap.ended}" for gap in healed)
         told = f"; entities that are newer in the dump: {newer}" if words.dump else ""
@@ -295,7 +296,7 @@ def add_words(commands: typing.Any) -> None:
     add_init(add("init", command_init, "make the home of a mirror, with its settings"))
     load = add("load", command_load, "load a JSON dump of Wikidata (plain, .gz or .bz2) into the home and the store")
     load.add_argument("dump", metavar="DUMP", help="the dump; - is standard input")
-    load.add_argument("--began", metavar="TIME", help="when the dump was begun; without it, the greatest time in it")
+    load.add_argument("--began", type=moment, metavar="TIME", help="when the dump was begun: the mirror follows the wiki from then on")
     load.add_argument("--skip-bad-lines", action="store_true", help="leave out lines that are no entities")
     load.add_argument("--clear", action="store_true", help="clear a store that something else filled")
     reload = add("reload", command_reload, "fill the store again from the home: where it is lost, older than the home, or wrong")
@@ -311,11 +312,11 @@ def add_words(commands: typing.Any) -> None:
     verify = add("verify", command_verify, "compare the store with the home, triple by triple")
     verify.add_argument("--mend", action="store_true", help="mend the store where it differs")
     heal = add("heal", command_heal, "mend gaps of the stream: by what the wiki says that changed in them, or by a newer dump")
-    heal.add_argument("--since", metavar="TIME", help="mend this stretch of time too, as if it were a gap")
-    heal.add_argument("--until", metavar="TIME", help="its end")
+    heal.add_argument("--since", type=moment, metavar="TIME", help="mend this stretch of time too, as if it were a gap")
+    heal.add_argument("--until", type=moment, metavar="TIME", help="its end")
     heal.add_argument("--all", action="store_true", help="ask the wiki for each entity that the home holds, which also finds deletions that were lost at any time")
     heal.add_argument("--dump", metavar="DUMP", help="mend gaps by a newer dump, where the wiki has forgotten what changed")
-    heal.add_argument("--began", metavar="TIME", help="when this dump was begun")
+    heal.add_argument("--began", type=moment, metavar="TIME", help="when this dump was begun")
     add("status", command_status, "show how far the mirror is, and what is wrong")
     ask = add("ask", command_ask, "ask the home (three terms, or lines of JSON on standard input) or the store (--sparql)")
     ask.add_argument("terms", nargs="*", metavar="TERM", help="subject, predicate and object: each ? or a term, as <http://www.wikidata.org/entity/Q42>")
@@ -359,8 +360,6 @@ def main(arguments: typing.Optional[list[str]] = None) -> int:
     words = parser.parse_args(arguments)
     try:
         return run(words)
-    except argparse.ArgumentTypeError as error:
-        reason: MirrorError = Usage(str(error))
     except MirrorError as error:
         reason = error
     except BrokenPipeError:

@@ -8,7 +8,6 @@ import bz2
 import collections
 import gzip
 import json
-import os
 import pathlib
 import sys
 import typing
@@ -81,7 +80,8 @@ def put_page(pages: pathlib.Path, revision: int, body: bytes) -> None:
 
 
 def load(name: str, pages: pathlib.Path, events: pathlib.Path, began: str, settings: Settings) -> collections.Counter[str]:
-    """Writes the pages and the events of a dump; says how many entities of each kind there were."""
+    """Writes the pages and the events of a dump; says how many entities of each kind there were. Without the time when it was begun, the mirror
+    begins with the greatest time in it, and names what it may lack then."""
     counts: collections.Counter[str] = collections.Counter()
     greatest = ""
     try:
@@ -91,10 +91,11 @@ def load(name: str, pages: pathlib.Path, events: pathlib.Path, began: str, setti
                 print(line_of(edit), file=out)
                 greatest = max(greatest, edit["time"][:19])
             mark = began or (greatest and greatest + "Z")
+            if mark and not began:
+                print(f"wdq-mirror: without --began, the mirror lacks what changed while the dump was taken, up to {mark}: "
+                      f"wdq-mirror heal --since TIME --until {mark} asks the wiki for it", file=sys.stderr)
             if mark:
                 print(line_of({"watermark": mark}), file=out)
     except OSError as error:
         raise Unreachable(f"{error.filename or events} can't be written: {error.strerror}: make room and load the dump again") from None
-    # The pages are on the disk before anything says so.
-    os.sync()
     return counts

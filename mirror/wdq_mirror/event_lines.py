@@ -39,6 +39,7 @@ def missing(cause, key, json_object):
 
 
 def check_kind(json_object):
+    """Refuses an event whose kind is none."""
     kind = json_object["kind"]
     if kind in KINDS:
         return
@@ -49,6 +50,7 @@ def check_kind(json_object):
 
 
 def check_entity(json_object):
+    """Refuses an event whose entity is none that wdq takes."""
     if "entity" not in json_object:
         raise missing("Entity", "entity", json_object)
     entity = json_object["entity"]
@@ -69,6 +71,7 @@ def check_entity(json_object):
 
 
 def check_revision(json_object):
+    """Refuses an event whose revision is none."""
     if "rev" not in json_object:
         raise missing("Rev", "rev", json_object)
     revision = json_object["rev"]
@@ -85,6 +88,7 @@ def check_revision(json_object):
 
 
 def is_time(text):
+    """Whether a text is a time of event lines."""
     match = TIME.fullmatch(text)
     try:
         return bool(match and datetime.datetime(*map(int, match.groups())))
@@ -111,6 +115,7 @@ def explain_time(text):
 
 
 def check_time(json_object, key):
+    """Refuses an object whose time is missing or none."""
     if key not in json_object:
         raise missing("Time", key, json_object)
     time = json_object[key]
@@ -122,6 +127,7 @@ def check_time(json_object, key):
 
 
 def check_event(json_object):
+    """Refuses an event that has a member wrong."""
     check_kind(json_object)
     check_entity(json_object)
     check_revision(json_object)
@@ -136,6 +142,7 @@ def check_event(json_object):
 
 
 def is_character(code, in_brackets):
+    """Whether an escape stands for a character, and in an IRI for one that IRIs have."""
     if 0xD800 <= code <= 0xDFFF or code > 0x10FFFF:
         return False
     return not in_brackets or (code > 0x20 and chr(code) not in '<>"{}|^`\\')
@@ -153,6 +160,7 @@ def is_term(text):
 
 
 def explain_term(text):
+    """What would mend a text that is no term."""
     if re.fullmatch(r"https?://[^\s<>]*", text):
         return f'an IRI without angle brackets: write "<{text}>"'
     if re.fullmatch("[PQ][0-9]+|[a-z]+:[PQ][0-9]+", text):
@@ -165,6 +173,7 @@ def explain_term(text):
 
 
 def check_question(question):
+    """Refuses a question that is no triple of terms and question marks."""
     if not isinstance(question, list) or len(question) != 3:
         raise Refusal("Pattern", "the value of `ask` is no list of three", 'write ["?","?","?"], with a term for a ?')
     for name, text in zip(["subject", "predicate", "object"], question):
@@ -182,6 +191,7 @@ def explain_place(text):
 
 
 def check_match(patterns):
+    """Refuses a graph pattern that is none."""
     if not isinstance(patterns, list) or not 1 <= len(patterns) <= MOST_PATTERNS:
         raise Refusal("Match", f"the value of `match` is no list of 1 to {MOST_PATTERNS} patterns", 'write [["?x","?y","?z"]]')
     for pattern in patterns:
@@ -195,6 +205,7 @@ def check_match(patterns):
 
 
 def check_mapping(version):
+    """Refuses a version of the mapping that there is not."""
     if not isinstance(version, Number) or version.spelling not in ("1", "2"):
         raise Refusal("Mapping", f"{shown(version)} is no version of the mapping", "write 1 or 2")
 

@@ -17,18 +17,14 @@ NAMESPACES = "0|120|146"
 Event = dict[str, typing.Any]
 
 
-def reconciliations(found: dict[str, int], time: int, greatest: typing.Callable[[str], int]) -> list[Event]:
-    """What each entity is at a time, by its newest revision. The wiki gives a deleted page none, so it gets the greatest one known."""
+def reconciliations(found: dict[str, int], time_of: typing.Callable[[str], int], greatest: typing.Callable[[str], int]) -> list[Event]:
+    """What each entity is, by its newest revision. Its events that were known when the wiki was asked have smaller keys, even those of the same
+    time; those that the answer may lack have greater ones. The wiki gives a deleted page no revision, so it gets the greatest one known."""
     told = []
     for entity, revision in found.items():
         mode = "kept" if revision else "deleted"
-        told.append({"kind": "reconcile", "mode": mode, "entity": entity, "rev": revision or greatest(entity), "time": text_of(time)})
+        told.append({"kind": "reconcile", "mode": mode, "entity": entity, "rev": revision or greatest(entity), "time": text_of(time_of(entity))})
     return told
-
-
-def just_after(mark: typing.Optional[int]) -> int:
-    """The time of reconciliations: right behind the mark, so that each event that the answer may lack is later and is applied."""
-    return mark + 1 if mark is not None else now()
 
 
 def due_doubts(home: Home, held: snapshot.Snapshot, era: int) -> list[str]:
@@ -42,16 +38,17 @@ def due_doubts(home: Home, held: snapshot.Snapshot, era: int) -> list[str]:
     return due
 
 
-def closed(told: list[Event]) -> list[Event]:
-    """Reconciliations with a watermark behind them, so that they are applied though the stream may be quiet."""
-    return [*told, {"watermark": told[0]["time"]}] if told else []
+def now_true(found: dict[str, int], held: snapshot.Snapshot) -> list[Event]:
+    """Reconciliations for a batch of their own, with a watermark right behind the mark, so that they are applied though the stream may be quiet."""
+    told = reconciliations(found, held.time_of, held.greatest)
+    return [*told, {"watermark": text_of(held.after_mark)}] if told else []
 
 
 async def settle_doubts(home: Home, wiki: Wiki, held: snapshot.Snapshot, era: int) -> list[Event]:
     """Reconciliations of the entities in doubt. Where the wiki doesn't answer, a later era asks."""
     try:
         found = await wiki.present(due_doubts(home, held, era))
-        return closed(reconciliations(found, just_after(held.mark), held.greatest))
+        return now_true(found, held)
     except Unanswered as reason:
         print(f"wdq-mirror: {reason}; a later batch asks for what is in doubt", file=sys.stderr)
         return []
@@ -59,14 +56,18 @@ async def settle_doubts(home: Home, wiki: Wiki, held: snapshot.Snapshot, era: in
 
 def newer_in_dump(home: Home, name: str, held: snapshot.Snapshot) -> tuple[dict[str, int], list[str]]:
     """The newest revision of each entity that a dump has newer than the home, their pages being put into the home; and the entities for which
-    the wiki has to be asked: those that the dump lacks, as they may be deleted, redirects, or newer, and those that only the home has deleted."""
+    the wiki has to be asked: those that the dump lacks, as they may be deleted, redirects, or newer, those that only the home has deleted, and
+    those of which events wait."""
     newer: dict[str, int] = {}
     there, doubtful = set(), set()
     for edit, line in dump.entities(name, home.settings, collections.Counter()):
         entity, revision = edit["entity"], edit["rev"]
         record = held.records.get(entity)
         there.add(entity)
-        if record is None or record.revision < revision:
+        if entity in held.latest:
+            # The dump may be older than what waits.
+            doubtful.add(entity)
+        elif record is None or record.revision < revision:
             dump.put_page(home.pages, revision, line)
             newer[entity] = revision
         elif record.state != "kept":
@@ -76,9 +77,9 @@ def newer_in_dump(home: Home, name: str, held: snapshot.Snapshot) -> tuple[dict[
 
 
 def differs(held: snapshot.Snapshot, entity: str, revision: int) -> bool:
-    """Whether an entity is another one than the home holds; its newest revision is 0 where its page isn't there."""
+    """Whether an entity is another one than the home holds or will hold; its newest revision is 0 where its page isn't there."""
     record = held.records.get(entity)
-    return bool(revision) if record is None or record.state != "kept" else record.held != revision
+    return entity in held.latest or (record.held if record and record.state == "kept" else 0) != revision
 
 
 async def changed_in(wiki: Wiki, gap: GapRow) -> set[str]:

@@ -8,12 +8,13 @@ import contextlib
 import dataclasses
 import pathlib
 import sqlite3
+import sys
 import typing
 import uuid
 
 from . import files, settings as settings_of
 from .errors import Mismatch, Unreachable, Usage
-from .times import text_of
+from .times import micros, text_of
 
 FORMAT = "1"
 SCHEMA = """
@@ -183,11 +184,26 @@ class Home:
         """Whether the open era goes without a page."""
         return self.base.execute("SELECT 1 FROM lacking WHERE revision = ?", (str(revision),)).fetchone() is not None
 
-    def goes_without_pages(self) -> bool:
-        """Whether the open era goes without any page."""
-        return self.base.execute("SELECT 1 FROM lacking LIMIT 1").fetchone() is not None
+    # --- The stream: where it goes on, gaps ---
 
-    # --- Gaps and doubts ---
+    def keep_place(self, place: str, seen: int, journal: pathlib.Path) -> None:
+        """Keeps where the stream goes on, and how much of the open era's events came before."""
+        for name, value in (("place", place), ("seen", str(seen)), ("journal", f"{journal.name} {journal.stat().st_size}")):
+            self.set_fact(name, value)
+
+    def note_lost_events(self) -> None:
+        """Where the open era lacks events that the stream has passed, as its file was removed, they are a gap."""
+        name, _, size = (self.fact("journal") or "").partition(" ")
+        if not name or not self.eras_exist() or name != self.file("events", self.last_era().number + 1).name:
+            return
+        path = self.path / "events" / name
+        if path.exists() and path.stat().st_size >= int(size):
+            return
+        mark = self.last_era().mark or self.fact("since")
+        with self.transaction():
+            self.note_gap(micros(mark) if mark else 0, int(self.fact("seen") or 0))
+            self.set_fact("journal", "")
+        print(f"wdq-mirror: {path} has lost events that came on the stream: this is a gap, for which the wiki is asked", file=sys.stderr)
 
     def note_gap(self, before: int, after: int) -> None:
         """Keeps that the stream has lost what came between two messages, of which the latter may be late, as may be what was lost."""

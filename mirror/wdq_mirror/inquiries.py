@@ -7,6 +7,7 @@ from . import healing, snapshot
 from .errors import Gap, MirrorError
 from .home import GapRow, Home
 from .outbox import say
+from .times import micros
 from .wiki import Unanswered, Wiki
 
 Event = dict[str, typing.Any]
@@ -25,29 +26,33 @@ class Inquiries:
         self.doubtful: set[str] = set()
         # The greatest revision of each entity that came while the service ran.
         self.greatest: dict[str, int] = {}
-        # The entities of which events came since the question under way.
-        self.changed: set[str] = set()
+        # The greatest time of each entity's events that weren't applied when the question under way was asked.
+        self.latest: dict[str, int] = {}
+        # That of the events that came since.
+        self.changed: dict[str, int] = {}
         self.held = snapshot.Snapshot(None, 0, [], {})
 
     def note(self, event: Event) -> None:
         """Keeps that an event came."""
         entity = event["entity"]
         self.greatest[entity] = max(self.greatest.get(entity, 0), event["rev"])
-        self.changed.add(entity)
+        self.changed[entity] = max(self.changed.get(entity, 0), micros(event["time"]))
 
     def greatest_of(self, entity: str) -> int:
         """The greatest revision that is known of an entity."""
         return max(self.greatest.get(entity, 1), self.held.greatest(entity))
 
-    def ask(self) -> None:
+    def ask(self, mark: int) -> None:
         """Asks the wiki where there is need and no question is under way."""
         gaps = self.home.gaps()
         if self.asking is None and (gaps or self.doubtful) and asyncio.get_running_loop().time() >= self.again_at:
-            entities, self.doubtful, self.changed = self.doubtful, set(), set()
+            known = sorted([*self.held.latest.items(), *self.latest.items(), *self.changed.items()], key=lambda pair: pair[1])
+            self.latest = {entity: time for entity, time in known if time > mark}
+            entities, self.doubtful, self.changed = self.doubtful, set(), {}
             self.asking = asyncio.create_task(self.present(entities, gaps))
 
     def answer(self, mark: int) -> tuple[list[Event], list[GapRow]]:
-        """Reconciliations right behind the mark, and the gaps that they heal, where an answer is there now. After a failure the same is asked again."""
+        """Reconciliations, and the gaps that they heal, where an answer is there now. After a failure the same is asked again."""
         if not self.asking or not self.asking.done():
             return [], []
         asking, self.asking = self.asking, None
@@ -62,7 +67,8 @@ class Inquiries:
         if not gaps:
             # The mark may have passed an event that came since the question, and that is newer than the answer. A gap holds the mark.
             found = {entity: revision for entity, revision in found.items() if entity not in self.changed}
-        return healing.reconciliations(found, healing.just_after(mark or None), self.greatest_of), gaps
+        least = mark + 1 if mark else self.held.after_mark
+        return healing.reconciliations(found, lambda entity: max(least, self.latest.get(entity, 0)), self.greatest_of), gaps
 
     async def present(self, entities: set[str], gaps: list[GapRow]) -> Answer:
         """What entities are now, and all that changed in gaps."""

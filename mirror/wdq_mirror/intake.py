@@ -1,6 +1,7 @@
 """What comes on the stream, for the live service: messages, gaps, and how far the stream is."""
 
 import asyncio
+import pathlib
 import typing
 
 from .home import Home
@@ -62,8 +63,7 @@ class Intake:
         is_at_end = self.stream.is_quiet or abs(now() - self.seen - passed) < PRESENT
         return self.seen + passed if passed and is_at_end and self.stream.is_connected and self.inbox.empty() else self.seen
 
-    def keep(self) -> None:
-        """Keeps in the home where the stream goes on."""
+    def keep(self, journal: pathlib.Path) -> None:
+        """Keeps in the home where the stream goes on, now that all before is in the journal."""
         with self.home.transaction():
-            self.home.set_fact("place", self.place)
-            self.home.set_fact("seen", str(self.seen))
+            self.home.keep_place(self.place, self.seen, journal)

@@ -35,16 +35,19 @@ def shown(value):
 
 
 def read_number(spelling):
+    """A number as it is spelt; refuses one that wdq would."""
     if not math.isfinite(float(spelling)):
         raise Refusal("NotJson", f"the number {spelling[:20]} is too great for double precision")
     return Number(spelling)
 
 
 def refuse_constant(spelling):
+    """Refuses NaN and the infinities."""
     raise Refusal("NotJson", f"JSON has no {spelling}", "write null, or leave the key out")
 
 
 def check_nesting(text):
+    """Refuses a text that nests too deep."""
     depth = 0
     for character in STRING.sub("", text):
         depth += (character in "[{") - (character in "]}")
@@ -53,6 +56,7 @@ def check_nesting(text):
 
 
 def check_surrogates(text):
+    """Refuses a text with half of a surrogate pair."""
     for string in STRING.findall(text) if "\\u" in text else []:
         if re.search("[\ud800-\udfff]", json.loads(string)):
             raise Refusal("NotJson", f"half of a surrogate pair in {string[:40]}", "write the character itself")
@@ -69,6 +73,7 @@ def explain_bytes(line):
 
 
 def explain_syntax(text, error):
+    """Why a text is no JSON value."""
     start = text.strip()
     if start.startswith(("data:", "event:", "id:", ":")):
         return Refusal("NotJson", "a line of a stream of server-sent events", "`wdq-mirror step` makes event lines of a stream")

@@ -6,6 +6,7 @@ so the journal and the records are divided there, and whoever goes on from it fe
 
 import asyncio
 import contextlib
+import os
 import pathlib
 import shutil
 import typing
@@ -26,8 +27,8 @@ class Died(Exception):
 class Wdq:
     """One run of wdq: the journal of its input, and its records, of which those that are known already are only compared."""
 
-    def __init__(self, tools: Tools, outbox: Outbox, figures: Figures, received: Position, every: int):
-        self.tools, self.home, self.outbox, self.figures, self.received, self.every = tools, tools.home, outbox, figures, received, every
+    def __init__(self, tools: Tools, outbox: Outbox, figures: Figures, received: Position):
+        self.tools, self.home, self.outbox, self.figures, self.received = tools, tools.home, outbox, figures, received
         last = self.home.last_era()
         self.number = last.number + 1
         self.start_place = self.place = last.position
@@ -35,10 +36,10 @@ class Wdq:
         self.lines = snapshot.read_head(self.home.file("snapshots", last.number)).lines
         # How many bytes wdq got in this run.
         self.bytes = 0
-        # Where wdq saves, and the save that is being taken.
-        self.saved = self.home.path / "snapshots/saved"
+        # Where wdq saves: no wdq whose wdq-mirror was killed writes there. And the save that is being taken.
+        self.saved = self.home.path / f"snapshots/saved-{os.getpid()}"
         self.taken: typing.Optional[snapshot.Head] = None
-        # The place and the end in the file of each record of the era, where wdq saves on the way.
+        # The place and the end in the file of each record of the era.
         self.ends: list[tuple[Position, int]] = []
 
     def file(self, folder: str, suffix: str = "") -> pathlib.Path:
@@ -49,8 +50,9 @@ class Wdq:
     async def start(self) -> None:
         """Starts wdq from the last snapshot."""
         words = self.tools.program.patches(self.home.pages, self.home.file("snapshots", self.number - 1), self.saved)
-        words += ["--every", str(self.every)] if self.every else []
-        self.saved.unlink(missing_ok=True)
+        words += ["--every", str(self.home.settings.program.save_watermarks)]
+        for path in self.saved.parent.glob("saved*"):
+            path.unlink()
         self.out = open(self.file("records", ".part"), "wb", buffering=2**16)
         self.journal = open(self.file("events"), "ab")
         self.child = await self.tools.program.start(words, asyncio.subprocess.PIPE, asyncio.subprocess.PIPE)
@@ -95,8 +97,7 @@ class Wdq:
             if record:
                 self.out.write(record.text)
                 self.place = record.after(self.place)
-                if self.every:
-                    self.ends.append((self.place, self.out.tell()))
+                self.ends.append((self.place, self.out.tell()))
                 await self.hand_on(record)
 
     async def hand_on(self, record: Record) -> None:

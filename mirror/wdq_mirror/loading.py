@@ -1,19 +1,22 @@
 """A whole load: a dump into the home, and what the home holds into the store."""
 
 import asyncio
+import os
 import pathlib
 import typing
 
 from . import dump, files, snapshot
-from .articles import Articles
 from .counts import Counts
-from .errors import BadInput, Mismatch, ProgramFailed, Unreachable, Usage
+from .errors import BadInput, Mismatch, ProgramFailed, Usage
 from .home import Era, Home, Position
 from .program import Program
 from .progress import Progress
+from .spelling import spell
 from .stores import Marks, Store
-from .terms import LONGEST_IRI, Triple, canonical, read_triple
 from .times import text_of
+
+# How many bytes of an export are read at a time.
+AT_ONCE = 2**20
 
 
 async def load_dump(home: Home, program: Program, name: str, began: str, allow_faults: bool) -> str:
@@ -30,104 +33,80 @@ async def load_dump(home: Home, program: Program, name: str, began: str, allow_f
     words = ["replay", "--from", str(home.pages), "--max-bytes", str(2**40), *program.limits(), "--save", str(part)]
     await program.run(words, events, None)
     files.put(part, saved)
+    if home.settings.program.keep_eras:
+        remove_pages(home, saved)
+    os.sync()
     head = snapshot.read_head(saved)
     home.fix_facts()
     home.close_era(Era(0, Position(head.patches, f"base of {home.identity}"), text_of(head.mark) if head.mark is not None else ""))
-    if home.settings.program.keep_eras:
-        # The snapshot has them, but for those that wait.
-        waiting = {f"{event['rev']}.json" for event in snapshot.read(saved).waiting}
-        for path in home.pages.iterdir():
-            if path.name not in waiting:
-                path.unlink()
     return told
 
 
-async def export(home: Home, program: Program, era: Era) -> typing.AsyncIterator[bytes]:
-    """The triples of a closed era as lines of N-Triples without line feeds. What waits goes on waiting, so wdq saves into a file that goes."""
+def remove_pages(home: Home, saved: pathlib.Path) -> None:
+    """Removes the pages that a snapshot has, all but those that wait. It is best done before they are on the disk: then it takes no time."""
+    waiting = {f"{event['rev']}.json" for event in snapshot.read(saved).waiting}
+    for path in home.pages.iterdir():
+        if path.name not in waiting:
+            path.unlink()
+
+
+async def export(home: Home, program: Program, era: Era) -> typing.AsyncIterator[list[str]]:
+    """The triples of a closed era as lines of N-Triples without line feeds, in lists of which each has all triples of its subjects. What waits
+    goes on waiting, so wdq saves into a file that goes."""
     saved = home.file("snapshots", era.number)
     if not saved.exists():
         raise Mismatch(f"{saved} isn't there: restore a backup (wdq-mirror restore)")
     scratch = home.path / "scratch"
     words = ["replay", "--resume", str(saved), *program.limits(), "--export", "--save", str(scratch)]
-    child = await program.start(words, asyncio.subprocess.DEVNULL, asyncio.subprocess.PIPE)
+    child = await program.start(words, asyncio.subprocess.DEVNULL, asyncio.subprocess.PIPE, AT_ONCE)
     assert child.stdout
     try:
-        rest = -1
-        async for line in child.stdout:
-            if rest >= 0:
-                rest -= 1
-                yield line[:-1]
-            else:
-                rest = int(line.split()[2])
+        head, lines, rest = await child.stdout.readline(), list[str](), b""
+        left = int(head.split()[2]) if head else 0
+        while block := await child.stdout.read(AT_ONCE):
+            block, feed, rest = (rest + block).rpartition(b"\n")
+            lines += block.decode().split("\n") if feed else []
+            whole = end_of_subjects(lines)
+            left -= whole
+            if whole:
+                yield lines[:whole]
+            lines = lines[whole:]
         await program.finish(child)
-        if rest != 0:
+        if rest or left != len(lines):
             raise ProgramFailed("wdq's export ended early: run the command again")
+        yield lines
     finally:
         if child.returncode is None:
             child.kill()
         scratch.unlink(missing_ok=True)
 
 
-class Speller:
-    """Spells triples as the store gets them, each value once, and counts."""
-
-    def __init__(self, articles: Articles, counts: typing.Optional[Counts]):
-        self.articles, self.counts = articles, counts
-        self.subject_predicate: tuple[str, str] = ("", "")
-        self.values: dict[str, tuple[int, str]] = {}
-        self.rows: list[tuple[str, int, str]] = []
-
-    def take(self, line: str) -> list[str]:
-        """Takes the next triple, in the order of subject and predicate; gives the lines that are whole now."""
-        line = self.articles.line(line)
-        if "\\" not in line and line.isprintable() and (not self.counts or ('"' not in line and len(line) < LONGEST_IRI)):
-            # The store gets it as it is, which is most of them; controls, as tabs, are escaped.
-            return [line]
-        triple = read_triple(line)
-        found = canonical(triple.object) if self.counts else None
-        if not found:
-            return [triple.sparql()]
-        key = (triple.subject.text, triple.predicate.text)
-        done = self.flush() if key != self.subject_predicate else []
-        self.subject_predicate = key
-        value = f"{triple.subject.sparql()} {triple.predicate.sparql()} {found[0]}"
-        number, sent = self.values.get(value, (0, ""))
-        self.values[value] = (number + 1, sent or Triple(triple.subject, triple.predicate, found[1]).sparql())
-        return done
-
-    def flush(self) -> list[str]:
-        """Ends a subject and predicate."""
-        self.rows += [(value, number, sent) for value, (number, sent) in self.values.items()]
-        lines = [sent for _, sent in self.values.values()]
-        self.values = {}
-        if self.counts and len(self.rows) > 10_000:
-            self.write()
-        return lines
-
-    def write(self) -> None:
-        """Writes the counts."""
-        if self.counts:
-            self.counts.base.executemany("INSERT OR REPLACE INTO counts VALUES (?, ?, ?)", self.rows)
-        self.rows = []
+def end_of_subjects(lines: list[str]) -> int:
+    """Where the last subject of sorted lines begins; those before it are whole."""
+    end = len(lines)
+    subject = lines[-1].partition(" ")[0] + " " if lines else ""
+    while end and lines[end - 1].startswith(subject):
+        end -= 1
+    return end
 
 
-async def write_triples(home: Home, program: Program, era: Era, target: pathlib.Path, counts: typing.Optional[Counts]) -> int:
-    """Writes the triples of an era as the store gets them; says how many lines there are."""
-    speller, written = Speller(home.settings.articles, counts), 0
-    try:
-        with open(target, "w", encoding="utf-8", newline="\n", buffering=2**20) as out, Progress("triples") as progress:
-            async for line in export(home, program, era):
-                for spelled in speller.take(line.decode()):
-                    out.write(spelled + "\n")
-                    written += 1
-                progress.show(written)
-            for spelled in speller.flush():
-                out.write(spelled + "\n")
-                written += 1
-    except OSError as error:
-        raise Unreachable(f"{target} can't be written: {error.strerror}: make room and run wdq-mirror reload") from None
-    speller.write()
-    return written
+class Spelling:
+    """What the store gets in a whole load, made while the store takes it."""
+
+    def __init__(self, home: Home, program: Program, counts: typing.Optional[Counts]):
+        self.home, self.program, self.counts = home, program, counts
+        self.written = 0
+
+    async def lines(self) -> typing.AsyncIterator[list[str]]:
+        """The lines, some thousands at a time; counts their values."""
+        with Progress("triples") as progress:
+            async for lines in export(self.home, self.program, self.home.last_era()):
+                spelled = spell(lines, self.home.settings.articles, self.counts is not None)
+                if self.counts:
+                    self.counts.base.executemany("INSERT OR REPLACE INTO counts VALUES (?, ?, ?)", spelled.counts)
+                self.written += len(spelled.lines)
+                progress.show(self.written)
+                yield spelled.lines
 
 
 async def check_target(home: Home, store: Store, may_clear: bool) -> None:
@@ -152,15 +131,13 @@ async def fill(home: Home, program: Program, store: Store, may_clear: bool) -> i
         for path in home.path.glob("counts.db*"):
             path.unlink()
         counts = Counts(home.path / "counts.db", home.identity)
-    target = home.path / "load.nt"
+    spelling = Spelling(home, program, counts)
     try:
-        written = await write_triples(home, program, era, target, counts)
-        await store.load(target, Marks(era.position, home.identity, home.settings.mirror.graph, home.settings.mirror.counts))
+        await store.load(spelling.lines(), Marks(era.position, home.identity, home.settings.mirror.graph, home.settings.mirror.counts))
         if counts:
             counts.keep(era.position.number)
         home.set_fact("filling", "")
-        return written
+        return spelling.written
     finally:
-        target.unlink(missing_ok=True)
         if counts:
             counts.close()

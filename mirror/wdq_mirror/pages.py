@@ -88,7 +88,7 @@ class Pages:
                 await asyncio.to_thread(files.save, path, body)
                 self.counts["fetched"] += 1
             except Unanswered as reason:
-                print(f"wdq-mirror: {page.entity} {page.revision}: {reason}", file=sys.stderr)
+                print(f"wdq-mirror: {page.entity} is in doubt, since revision {page.revision} can't be fetched: {reason}", file=sys.stderr)
                 self.home.give_up(page, era)
                 self.counts["not to be had"] += 1
 

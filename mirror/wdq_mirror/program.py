@@ -16,7 +16,7 @@ ADVICE: dict[int, tuple[type[MirrorError], str]] = {
     2: (ProgramFailed, "it refuses a line: wdq-mirror explain FILE names it, mend it there and run the command again"),
     3: (Unreachable, "it can't read: run the command again"),
     4: (Unreachable, "it can't write: is the disk full? Make room and run the command again"),
-    5: (ProgramFailed, "its input is too long: give a part of the dump (mirror.shard) or a smaller program.era_events"),
+    5: (ProgramFailed, "its input is too long: give a part of the dump (mirror.shard), or the events in several files"),
     6: (ProgramFailed, "its store is full: set a greater program.max_terms and run the command again"),
     7: (Unreachable, "memory is short: take a machine with more, or several shards"),
     8: (ProgramFailed, "it refuses the snapshot: restore a backup (wdq-mirror restore)"),
@@ -38,13 +38,15 @@ def find(settings: Settings) -> str:
             raise Usage(f"program.path is {named}, which can't be run")
         return named
     above = pathlib.Path(__file__).resolve().parents
-    for candidate in (above[2] / "crates/wdq/out/wdq", above[2] / "wdq", above[3] / "libexec/wdq/wdq"):
+    for candidate in (above[2] / "crates/wdq/out/wdq", above[3] / "libexec/wdq/wdq"):
         if candidate.is_file() and os.access(candidate, os.X_OK):
             return str(candidate)
     found = shutil.which("wdq")
-    if not found:
-        raise Usage("wdq is neither beside wdq-mirror nor on PATH: install it, or set program.path")
-    return found
+    if found:
+        return found
+    if (above[2] / "crates.txt").exists():
+        raise Usage(f"wdq isn't built yet: {above[2]}/wdq drill --size 1 builds it")
+    raise Usage("wdq is neither beside wdq-mirror nor on PATH: install it, or set program.path")
 
 
 class Program:
@@ -57,11 +59,12 @@ class Program:
         """The options that every run has. A snapshot has the horizon by itself, but wdq checks that it is the same."""
         return ["--max-terms", str(self.settings.program.max_terms), "--horizon", str(self.settings.horizon)]
 
-    async def start(self, words: list[str], stdin: typing.Any, stdout: typing.Any) -> asyncio.subprocess.Process:
-        """Starts wdq."""
+    async def start(self, words: list[str], stdin: typing.Any, stdout: typing.Any, limit: int = LONGEST_LINE) -> asyncio.subprocess.Process:
+        """Starts wdq, away from the terminal, so that Ctrl-C ends wdq-mirror, which has wdq save. So much of what it prints is read ahead."""
+        pipe = asyncio.subprocess.PIPE
         try:
             return await asyncio.create_subprocess_exec(
-                self.path, *words, stdin=stdin, stdout=stdout, stderr=asyncio.subprocess.PIPE, limit=LONGEST_LINE
+                self.path, *words, stdin=stdin, stdout=stdout, stderr=pipe, limit=limit, start_new_session=True
             )
         except OSError as error:
             raise Usage(f"{self.path} doesn't run: {error.strerror}") from None
@@ -88,11 +91,3 @@ class Program:
         """The words that make the records of an era."""
         resumed = ["--resume", str(before)] if before else []
         return ["patches", "--from", str(pages), "--max-bytes", str(MOST_INPUT), *self.limits(), *resumed, "--save", str(save)]
-
-    async def saves_on_the_way(self, scratch: pathlib.Path) -> bool:
-        """Whether wdq can save in the middle of a run (--every N). Words that it doesn't understand give status 1."""
-        nothing = asyncio.subprocess.DEVNULL
-        child = await self.start(["patches", "--save", str(scratch), "--every", "1"], nothing, nothing)
-        await child.communicate()
-        scratch.unlink(missing_ok=True)
-        return child.returncode != 1

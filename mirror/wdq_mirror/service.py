@@ -41,7 +41,8 @@ class Service:
         self.outbox = Outbox(tools, self.figures)
         self.inquiries = Inquiries(tools.home, tools.wiki)
         self.fetching = Fetching(tools.pages)
-        self.stopping = asyncio.Event()
+        self.stopping, self.saved = asyncio.Event(), asyncio.Event()
+        self.looking = asyncio.Lock()
         self.mark = 0
         self.known: dict[tuple[typing.Any, ...], None] = {}
         self.held = snapshot.Snapshot(None, 0, [], {})
@@ -60,10 +61,9 @@ class Service:
                 await stack.enter_async_context(serve(self.home, self.figures, self.http))
             if not await self.begin():
                 return
-            can_save = await self.tools.program.saves_on_the_way(self.home.path / "scratch")
-            self.every = self.words.program.save_watermarks if can_save else 0
             self.intake = Intake(self.home, self.tools.wiki)
-            self.tasks = [asyncio.create_task(work) for work in (self.intake.run(), self.outbox.run(), self.let_go())]
+            say(f"follows {self.words.wiki.stream}, and has applied what changed up to {self.home.last_era().mark}; Ctrl-C or SIGTERM stops it")
+            self.tasks = [asyncio.create_task(work) for work in (self.intake.run(), self.outbox.run(), self.let_go(), self.look_at_saves())]
             try:
                 while not self.stopping.is_set():
                     await self.wdq_to_its_end()
@@ -125,11 +125,10 @@ class Service:
     async def wdq_to_its_end(self) -> None:
         """Lets wdq run until it has to begin anew, again from its last save where it died."""
         await self.look()
-        self.begun, self.events = asyncio.get_running_loop().time(), 0
         self.fetching.begin(self.held.waiting, self.mark, self.home.last_era().number + 1)
         received, pause = self.home.last_era().position, SECONDS_OF_PAUSE
         while True:
-            wdq = Wdq(self.tools, self.outbox, self.figures, received, self.every)
+            wdq = Wdq(self.tools, self.outbox, self.figures, received)
             await wdq.start()
             try:
                 await wdq.feed_again()
@@ -151,14 +150,23 @@ class Service:
 
     async def look(self) -> None:
         """Looks at the last snapshot: how far it is, and what is in doubt, for which the wiki is asked next."""
-        last = self.home.last_era()
-        self.held = self.inquiries.held = await asyncio.to_thread(snapshot.read, self.home.file("snapshots", last.number))
+        async with self.looking:
+            last = self.home.last_era()
+            self.held = self.inquiries.held = await asyncio.to_thread(snapshot.read, self.home.file("snapshots", last.number))
         self.mark = max(self.mark, self.held.mark or 0)
         doubts = self.held.doubts()
         self.figures.doubts = [(doubt.entity, doubt.cause, doubt.revision) for doubt in doubts]
         for name, value in (("in_doubt", len(doubts)), ("era", last.number)):
             self.figures.set(name, value)
         self.inquiries.doubtful |= set(healing.due_doubts(self.home, self.held, last.number + 1))
+
+    async def look_at_saves(self) -> None:
+        """Looks at what wdq has saved, which takes seconds where it is much, while events and watermarks go on; then forgets what is older."""
+        while True:
+            await self.saved.wait()
+            self.saved.clear()
+            await self.look()
+            eras.forget(self.home)
 
     async def feed(self, wdq: Wdq) -> None:
         """Gives wdq events and watermarks until it has to begin anew."""
@@ -173,22 +181,15 @@ class Service:
             if wdq.reading.done():
                 raise Died
             if wdq.take_save():
-                await self.look()
-                eras.forget(self.home)
+                self.saved.set()
             if clock() >= next_mark:
                 await self.take_answer(wdq)
                 await self.give_mark(wdq)
                 next_mark = clock() + BETWEEN_MARKS
 
     def is_over(self, wdq: Wdq) -> bool:
-        """Whether wdq should begin anew. One that saves on the way needn't for a long time."""
-        if self.stopping.is_set() or wdq.bytes >= MOST_BYTES:
-            return True
-        if self.every:
-            return False
-        limits, minutes = self.words.program, (asyncio.get_running_loop().time() - self.begun) / 60
-        is_lacking = minutes >= limits.doubt_minutes and self.home.goes_without_pages()
-        return is_lacking or minutes >= limits.era_minutes or self.events >= limits.era_events
+        """Whether wdq should end its input and save."""
+        return self.stopping.is_set() or wdq.bytes >= MOST_BYTES
 
     # --- Lines ---
 
@@ -210,7 +211,6 @@ class Service:
     async def give(self, wdq: Wdq, events: list[Event], is_synced: bool = False) -> None:
         """Gives wdq events, and begins to fetch their pages. Their watermarks come later, once the pages are there."""
         text = b"".join(line_of(event).encode() + b"\n" for event in events)
-        self.events += len(events)
         await wdq.note(text, is_synced)
         self.fetching.begin(events, self.mark, wdq.number)
         await wdq.write(text)
@@ -223,7 +223,7 @@ class Service:
             await self.give(wdq, events, is_synced=True)
             self.home.heal_gaps(gap.number for gap in healed)
         self.figures.set("gap", len(self.home.gaps()))
-        self.inquiries.ask()
+        self.inquiries.ask(self.mark)
 
     async def give_mark(self, wdq: Wdq) -> None:
         """Gives wdq the next watermark: behind the delay, and before any page that is still under way. An open gap holds it back."""
@@ -238,7 +238,7 @@ class Service:
         text = b"" if is_held else line_of({"watermark": text_of(mark)}).encode() + b"\n"
         # The journal is on the disk before the place of the stream is, and before wdq prints what the store gets.
         await wdq.note(text, is_synced=True)
-        self.intake.keep()
+        self.intake.keep(wdq.file("events"))
         if is_held:
             return
         self.mark = mark

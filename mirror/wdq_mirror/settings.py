@@ -16,6 +16,8 @@ NO_IRI = re.compile(r'[\x00-\x20<>"{}|^`\\]')
 KINDS = ("embedded", "sparql")
 TYPES = {bool: "true or false", int: "a whole number", float: "a number", str: "a text in quotes"}
 LOADERS = ("updates", "graph-store", "virtuoso")
+# Settings of older homes that mean nothing any more.
+FORMER = ("era_minutes", "era_events", "doubt_minutes")
 
 
 def about(default: typing.Any, text: str) -> typing.Any:
@@ -44,11 +46,12 @@ class Store:
     query: str = about("", "sparql: the address that takes queries; without it that of updates")
     user: str = about("", "sparql: the user, where the store asks for one")
     password_file: str = about("", "sparql: the file of the user's password")
-    loader: str = about("updates", "how a whole load goes in: updates, graph-store (SPARQL 1.1 Graph Store Protocol) or virtuoso (isql and ld_dir)")
+    loader: str = about("updates", "how a whole load goes in: updates, graph-store (SPARQL 1.1 Graph Store Protocol) or virtuoso (its own loader, by isql)")
+    loads_at_once: int = about(2, "updates and virtuoso: how many parts of a load the store takes at a time")
     graph_store: str = about("", "graph-store: its address")
-    isql: str = about("isql-vt 1111 dba dba", "virtuoso: the command that takes SQL")
-    load_folder: str = about("", "virtuoso: a folder that its DirsAllowed names")
-    timeout_seconds: int = about(60, "how long one answer of the store may take")
+    isql: str = about("isql-vt 1111 dba dba", "virtuoso: the command that takes SQL, with the user and the password")
+    load_folder: str = about("", "virtuoso: a folder that DirsAllowed in virtuoso.ini names, and into which wdq-mirror may write")
+    timeout_seconds: int = about(60, "how many seconds one answer of the store may take")
     batch_records: int = about(500, "an update has at most so many records")
     batch_triples: int = about(5000, "and is sent once it has so many changes")
     batch_milliseconds: int = about(200, "or once its first record has waited so long")
@@ -62,25 +65,22 @@ class Wiki:
     site: str = about("https://www.wikidata.org", "the wiki")
     stream: str = about("https://stream.wikimedia.org/v2/stream/mediawiki.page_change.v1", "its stream of page changes")
     agent: str = about("", 'who asks, as "mirror/1.0 (jane@example.org)"')
-    delay_seconds: int = about(10, "how late an event may come")
+    delay_seconds: int = about(10, "how many seconds the watermark stays behind the stream; an event that comes later than that is late, and the wiki is asked about it")
     history_days: int = about(30, "how many days the wiki remembers its changes, to heal gaps; 0: for ever")
-    silence_seconds: int = about(10, "a reconnection that passes over so many seconds of the stream is a gap")
-    late_seconds: int = about(600, "how late an event may come at most: gaps are healed from so long before they began to so long after they ended")
+    silence_seconds: int = about(10, "where the stream has no offsets, a reconnection that passes over more than so many seconds of it is a gap")
+    late_seconds: int = about(600, "gaps are healed from so many seconds before they began to so many after they ended, since a gap may hide late events")
     fetches: int = about(4, "how many pages are fetched at a time")
     tries: int = about(6, "how often a request is made where the wiki is busy")
-    pause_seconds: float = about(1.0, "the first pause before it is made again; it doubles")
+    pause_seconds: float = about(1.0, "how many seconds pass before it is made again; they double each time")
 
 
 @dataclasses.dataclass
 class Program:
     """The program wdq."""
 
-    path: str = about("", "the program; without it ./wdq of the checkout, or wdq on PATH")
+    path: str = about("", "the program wdq; without it that of the checkout or of the package, else wdq on PATH")
     max_terms: int = about(20_000_000, "the most distinct terms that the store may have")
-    era_minutes: int = about(60, "wdq saves its state, and begins anew, after so many minutes of `run`")
-    era_events: int = about(1_000_000, "or after so many event lines")
-    save_watermarks: int = about(3000, "or, where wdq can save without a new beginning, every so many watermarks instead")
-    doubt_minutes: int = about(10, "or after so many minutes, if pages are missing: a new era asks for them again")
+    save_watermarks: int = about(3000, "`run` saves wdq's state after so many watermarks, of which there are at most five a second")
     keep_eras: int = about(100, "how many eras of pages, events and records are kept; 0 keeps all")
 
 
@@ -132,6 +132,8 @@ def read_section(name: str, section: typing.Any, values: typing.Any) -> None:
         raise Usage(f"{name} in {FILE} is not a section: write [{name}]")
     fields = {field.name: field for field in dataclasses.fields(section)}
     for key, value in values.items():
+        if name == "program" and key in FORMER:
+            continue
         if key not in fields:
             raise Usage(f"{FILE} has {name}.{key}, which is not a setting{near(key, fields)}")
         wanted = type(fields[key].default)

@@ -1,12 +1,13 @@
 """What a snapshot of wdq says, without reading its pages."""
 
 import dataclasses
+import functools
 import json
 import pathlib
 import typing
 
 from .errors import Mismatch
-from .times import text_of
+from .times import micros, now, text_of
 
 KINDS = ["edit", "delete", "undelete", "reconcile-deleted", "reconcile-kept"]
 
@@ -71,11 +72,28 @@ class Snapshot:
                 found.append(Doubt(event["entity"], cause, revision))
         return found
 
+    @functools.cached_property
+    def latest(self) -> dict[str, int]:
+        """The greatest time of each entity's events that wait."""
+        found: dict[str, int] = {}
+        for event in self.waiting:
+            found[event["entity"]] = max(found.get(event["entity"], 0), micros(event["time"]))
+        return found
+
+    @property
+    def after_mark(self) -> int:
+        """The time right behind the mark."""
+        return self.mark + 1 if self.mark is not None else now()
+
+    def time_of(self, entity: str) -> int:
+        """The time of a reconciliation of an entity: right behind the mark, or that of the last of its events that wait."""
+        return max(self.after_mark, self.latest.get(entity, 0))
+
     def greatest(self, entity: str) -> int:
         """The greatest revision that is known of an entity."""
         record = self.records.get(entity)
-        named = [entry["event"]["rev"] for entry in self.entries if entry["event"]["entity"] == entity]
-        return max([record.revision if record else 1, *named, 1])
+        named = [entry["event"] for entry in self.entries] + (self.waiting if entity in self.latest else [])
+        return max([record.revision if record else 1, *(event["rev"] for event in named if event["entity"] == entity), 1])
 
 
 def read_line(line: bytes) -> dict[str, typing.Any]:

@@ -92,10 +92,10 @@ def keep_batch(home: Home, number: int, front: list[Event], batch: Batch) -> Non
     lines = [line_of(event) for event in front] + batch.lines
     if batch.seen:
         lines.append(line_of({"watermark": text_of(batch.seen - delay)}))
-    files.save(home.file("events", number), "".join(line + "\n" for line in lines).encode())
+    events = home.file("events", number)
+    files.save(events, "".join(line + "\n" for line in lines).encode())
     with home.transaction():
-        home.set_fact("place", batch.place)
-        home.set_fact("seen", str(batch.seen))
+        home.keep_place(batch.place, batch.seen, events)
         if batch.gap:
             home.note_gap(*batch.gap)
 
@@ -142,7 +142,7 @@ async def take_present(tools: Tools, entities: list[str], gaps: list[GapRow]) ->
 async def take_newest(tools: Tools, held: snapshot.Snapshot, found: dict[str, int], gaps: list[GapRow]) -> None:
     """Takes the newest revision of each entity as an era of its own, after which gaps are healed."""
     home, number = tools.home, tools.home.last_era().number + 1
-    events = healing.closed(healing.reconciliations(found, healing.just_after(held.mark), held.greatest))
+    events = healing.now_true(found, held)
     if events:
         files.save(home.file("events", number), b"".join(line_of(event).encode() + b"\n" for event in events))
         await eras.run(home, tools.program, tools.pages, number)

@@ -32,6 +32,7 @@ class Iri(typing.NamedTuple):
     text: str
 
     def sparql(self):
+        """The IRI as SPARQL writes it."""
         return f"<{self.text}>"
 
 
@@ -58,6 +59,7 @@ class Triple(typing.NamedTuple):
     object: typing.Union[Iri, Literal]
 
     def sparql(self):
+        """The triple as SPARQL writes it."""
         return f"{self.subject.sparql()} {self.predicate.sparql()} {self.object.sparql()} ."
 
 
@@ -65,6 +67,7 @@ class Triple(typing.NamedTuple):
 
 
 def escaped(match):
+    """The escape of what TO_ESCAPE found."""
     text = match.group()
     if text in ESCAPES:
         return ESCAPES[text]
@@ -89,6 +92,7 @@ def unescaped(text):
 
 
 def read_iri(text):
+    """The IRI of the text between angle brackets."""
     iri = unescaped(text)
     if iri is not text and NO_IRI_CHARACTER.search(iri):
         raise ValueError(f"<{text}> has a character that no IRI has")

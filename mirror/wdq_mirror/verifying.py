@@ -106,16 +106,16 @@ async def verify(home: Home, program: Program, store: Store) -> Found:
     page: dict[str, dict[str, Triple]] = {}
     size, known = 0, set()
     with Progress("triples") as progress:
-        async for line in loading.export(home, program, era):
-            triple = read_triple(home.settings.articles.line(line.decode()))
-            subject = triple.subject.text
-            if size >= IN_PAGE and subject not in page:
-                await comparison.page(page)
-                progress.show(comparison.found.compared)
-                page, size = {}, 0
-            known.add(subject)
-            page.setdefault(subject, {})[comparison.key(triple)] = triple
-            size += 1
+        async for lines in loading.export(home, program, era):
+            for triple in (read_triple(home.settings.articles.line(line)) for line in lines):
+                subject = triple.subject.text
+                if size >= IN_PAGE and subject not in page:
+                    await comparison.page(page)
+                    progress.show(comparison.found.compared)
+                    page, size = {}, 0
+                known.add(subject)
+                page.setdefault(subject, {})[comparison.key(triple)] = triple
+                size += 1
         if page:
             await comparison.page(page)
     if total != comparison.found.stored:

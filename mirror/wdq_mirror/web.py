@@ -11,6 +11,7 @@ from aiohttp import web
 from .errors import Usage
 from .figures import COUNTERS, Figures
 from .home import Home
+from .outbox import say
 from .reporting import cause_of
 from .wiki import title
 
@@ -149,6 +150,7 @@ async def serve(home: Home, figures: Figures, address: str) -> typing.AsyncItera
     except OSError as error:
         await runner.cleanup()
         raise Usage(f"--http {address} can't be served: {error.strerror}: name another port") from None
+    say(f"http://{address}/ shows how it goes")
     try:
         yield
     finally:

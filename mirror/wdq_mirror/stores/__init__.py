@@ -1,7 +1,6 @@
 """Stores of triples: what the mirror asks of each, and how one is opened."""
 
 import dataclasses
-import pathlib
 import typing
 
 from ..home import Home, Position
@@ -9,6 +8,8 @@ from ..terms import Triple
 
 # A row of an answer: a term for each variable, as SPARQL's JSON has it.
 Row = dict[str, dict[str, str]]
+# The lines of a whole load, some thousands at a time.
+Lines = typing.AsyncIterator[list[str]]
 
 
 @dataclasses.dataclass(frozen=True)
@@ -30,8 +31,8 @@ class Store(typing.Protocol):
     async def apply(self, removes: list[str], adds: list[str], marks: Marks) -> None:
         """Removes and adds triples, and sets the marks."""
 
-    async def load(self, path: pathlib.Path, marks: Marks) -> None:
-        """Holds exactly the triples of a file of N-Triples from here on, and sets the marks."""
+    async def load(self, lines: Lines, marks: Marks) -> None:
+        """Holds exactly these triples from here on, and sets the marks."""
 
     async def count(self, predicate: str = "") -> int:
         """How many triples the graph has, perhaps only those of a predicate."""

@@ -1,6 +1,8 @@
 """The embedded store: quads in an SQLite file, which rdflib asks in SPARQL. Each update is one transaction."""
 
 import asyncio
+import contextlib
+import functools
 import pathlib
 import sqlite3
 import typing
@@ -9,7 +11,7 @@ from ..errors import Unreachable, Usage
 from ..home import Position
 from ..settings import Mirror
 from ..terms import Iri, Triple, read_triple
-from . import Marks, Row
+from . import Lines, Marks, Row
 
 SCHEMA = """
 CREATE TABLE IF NOT EXISTS triples (subject TEXT, predicate TEXT, object TEXT, PRIMARY KEY (subject, predicate, object)) WITHOUT ROWID;
@@ -17,7 +19,6 @@ CREATE INDEX IF NOT EXISTS by_predicate ON triples (predicate, object);
 CREATE INDEX IF NOT EXISTS by_object ON triples (object);
 CREATE TABLE IF NOT EXISTS marks (number INTEGER, digest TEXT, home TEXT, graph TEXT, counted INTEGER);
 """
-AT_ONCE = 10_000
 
 
 def split(line: str) -> tuple[str, str, str]:
@@ -38,22 +39,30 @@ class EmbeddedStore:
         except sqlite3.Error as error:
             raise Unreachable(f"the store {path} can't be opened: {error}") from None
 
-    async def run(self, work: typing.Callable[[], typing.Any]) -> typing.Any:
-        """Does something in a thread, and says what failed."""
+    @contextlib.contextmanager
+    def naming_faults(self) -> typing.Iterator[None]:
+        """Says of what is done within what failed."""
         try:
-            return await asyncio.to_thread(work)
+            yield
         except sqlite3.Error as error:
             raise Unreachable(f"the store {self.path} failed: {error}") from None
 
-    def transact(self, work: typing.Callable[[], None]) -> None:
-        """Does all of something or nothing."""
-        self.base.execute("BEGIN IMMEDIATE")
-        try:
-            work()
-        except BaseException:
-            self.base.execute("ROLLBACK")
-            raise
-        self.base.execute("COMMIT")
+    async def run(self, work: typing.Callable[[], typing.Any]) -> typing.Any:
+        """Does something in a thread."""
+        with self.naming_faults():
+            return await asyncio.to_thread(work)
+
+    @contextlib.contextmanager
+    def transaction(self) -> typing.Iterator[None]:
+        """All that is done within is kept, or nothing of it."""
+        with self.naming_faults():
+            self.base.execute("BEGIN IMMEDIATE")
+            try:
+                yield
+            except BaseException:
+                self.base.execute("ROLLBACK")
+                raise
+            self.base.execute("COMMIT")
 
     async def marks(self) -> typing.Optional[Marks]:
         """What the store says of itself."""
@@ -65,26 +74,28 @@ class EmbeddedStore:
         self.base.execute("DELETE FROM marks")
         self.base.execute("INSERT INTO marks VALUES (?, ?, ?, ?, ?)", (*marks.position, marks.home, marks.graph, marks.counted))
 
+    def add(self, lines: list[str]) -> None:
+        """Adds triples."""
+        self.base.executemany("INSERT OR IGNORE INTO triples VALUES (?, ?, ?)", map(split, lines))
+
     async def apply(self, removes: list[str], adds: list[str], marks: Marks) -> None:
         """Removes and adds triples in one transaction."""
 
         def work() -> None:
-            self.base.executemany("DELETE FROM triples WHERE subject = ? AND predicate = ? AND object = ?", map(split, removes))
-            self.base.executemany("INSERT OR IGNORE INTO triples VALUES (?, ?, ?)", map(split, adds))
+            with self.transaction():
+                self.base.executemany("DELETE FROM triples WHERE subject = ? AND predicate = ? AND object = ?", map(split, removes))
+                self.add(adds)
+                self.set_marks(marks)
+
+        await self.run(work)
+
+    async def load(self, lines: Lines, marks: Marks) -> None:
+        """Loads in one transaction."""
+        with self.transaction():
+            await self.run(lambda: self.base.execute("DELETE FROM triples"))
+            async for some in lines:
+                await self.run(functools.partial(self.add, some))
             self.set_marks(marks)
-
-        await self.run(lambda: self.transact(work))
-
-    async def load(self, path: pathlib.Path, marks: Marks) -> None:
-        """Loads a file in one transaction."""
-
-        def work() -> None:
-            self.base.execute("DELETE FROM triples")
-            with open(path, encoding="utf-8", newline="\n") as lines:
-                self.base.executemany("INSERT OR IGNORE INTO triples VALUES (?, ?, ?)", (split(line[:-1]) for line in lines))
-            self.set_marks(marks)
-
-        await self.run(lambda: self.transact(work))
 
     async def count(self, predicate: str = "") -> int:
         """How many triples there are, perhaps only those of a predicate."""

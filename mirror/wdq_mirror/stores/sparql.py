@@ -1,9 +1,10 @@
 """A store that is reached by the SPARQL 1.1 protocol."""
 
 import asyncio
+import hashlib
+import itertools
 import json
 import pathlib
-import shutil
 import typing
 import urllib.parse
 
@@ -13,14 +14,57 @@ from ..errors import Unreachable, Usage
 from ..home import Position
 from ..settings import Settings
 from ..terms import POINT_TYPE, Iri, Literal, Triple
-from . import Marks, Row
+from . import Lines, Marks, Row
 
 NUMBER, DIGEST = "urn:wdq:applied", "urn:wdq:digest"
 HOME, GRAPH, COUNTED = "urn:wdq:home", "urn:wdq:graph", "urn:wdq:counted"
 GEOMETRY = "http://www.openlinksw.com/schemas/virtrdf#Geometry"
 # Virtuoso's compiler refuses a block of 5,000 triples.
 MOST_IN_BLOCK = 1000
-LOADS_AT_ONCE = 4
+# A file of a load has so many triples, which take about a second.
+MOST_IN_FILE = 50_000
+# How Virtuoso's loader of files reads N-Triples: all faults of Turtle that it forgives.
+AS_LOADER = 255
+
+
+async def parts_of(lines: Lines, most: int) -> Lines:
+    """The same lines, so many at a time."""
+    part: list[str] = []
+    async for some in lines:
+        part += some
+        while len(part) >= most:
+            yield part[:most]
+            part = part[most:]
+    if part:
+        yield part
+
+
+async def each(parts: Lines, most: int, work: typing.Callable[[list[str]], typing.Awaitable[None]]) -> None:
+    """Does some work on each part, on so many at a time while the next one is made. The first failure ends all."""
+    tasks: set[asyncio.Future[None]] = set()
+    try:
+        async for part in parts:
+            if len(tasks) == most:
+                await asyncio.wait(tasks, return_when=asyncio.FIRST_COMPLETED)
+            for task in [task for task in tasks if task.done()]:
+                task.result()
+                tasks.remove(task)
+            tasks.add(asyncio.ensure_future(work(part)))
+        await asyncio.gather(*tasks)
+    finally:
+        for task in tasks:
+            task.cancel()
+        await asyncio.gather(*tasks, return_exceptions=True)
+
+
+def file_of(lines: list[str]) -> bytes:
+    """The file of these lines."""
+    return "".join(line + "\n" for line in lines).encode()
+
+
+def text_of_sql(text: typing.Any) -> str:
+    """A text as SQL writes it."""
+    return "'" + str(text).replace("'", "''") + "'"
 
 
 def blocks(word: str, graph: str, lines: list[str]) -> typing.Iterator[str]:
@@ -69,12 +113,12 @@ class SparqlStore:
             self.session = aiohttp.ClientSession(timeout=timeout)
         return self.session
 
-    async def post(self, url: str, body: bytes, kind: str, method: str = "POST", seconds: typing.Optional[int] = None) -> bytes:
+    async def post(self, url: str, body: bytes, kind: str, seconds: typing.Optional[int] = None) -> bytes:
         """Sends something to the store, and gives its answer."""
         headers = {"Content-Type": kind, "Accept": "application/sparql-results+json, */*;q=0.1"}
         limit = aiohttp.ClientTimeout(total=seconds or self.words.timeout_seconds)
         try:
-            async with self.client().request(method, url, data=body, headers=headers, timeout=limit, **self.login(url)) as answer:
+            async with self.client().post(url, data=body, headers=headers, timeout=limit, **self.login(url)) as answer:
                 said = await answer.read()
                 if answer.status == 401 or answer.status == 403:
                     raise Usage(f"the store at {url} refuses the login ({answer.status}): set store.user and store.password_file")
@@ -161,61 +205,54 @@ class SparqlStore:
 
     # --- A whole load ---
 
-    async def load(self, path: pathlib.Path, marks: Marks) -> None:
-        """Clears both graphs, loads a file, and sets the marks last: a store without marks isn't whole."""
+    async def load(self, lines: Lines, marks: Marks) -> None:
+        """Clears both graphs, loads, and sets the marks last: a store without marks isn't whole."""
         mirror, hour = self.mirror, 3600
         await self.update([f"CLEAR SILENT GRAPH <{mirror.stream}>"], hour)
         await self.update([f"CLEAR SILENT GRAPH <{mirror.graph}>"], hour)
-        if self.words.loader == "virtuoso":
-            await self.load_by_isql(path)
-        elif self.words.loader == "graph-store":
-            await self.load_by_graph_store(path)
-        else:
-            await self.load_by_updates(path)
+        load = {"virtuoso": self.load_by_isql, "graph-store": self.load_by_graph_store, "updates": self.load_by_updates}
+        await load[self.words.loader](lines)
         await self.update(mark_operations(mirror.stream, marks))
 
-    async def load_by_updates(self, path: pathlib.Path) -> None:
+    async def load_by_updates(self, lines: Lines) -> None:
         """Sends INSERT DATA, several at a time."""
-        limit = asyncio.Semaphore(LOADS_AT_ONCE)
-        tasks: set[asyncio.Task[None]] = set()
 
-        async def send(lines: list[str]) -> None:
-            try:
-                await self.update(list(blocks("INSERT", self.mirror.graph, lines)))
-            finally:
-                limit.release()
+        async def send(part: list[str]) -> None:
+            await self.update(list(blocks("INSERT", self.mirror.graph, part)))
 
-        with open(path, encoding="utf-8", newline="\n") as file:
-            while lines := [line.rstrip("\n") for _, line in zip(range(MOST_IN_BLOCK), file)]:
-                await limit.acquire()
-                tasks = {task for task in tasks if not task.done() or task.result()}
-                tasks.add(asyncio.create_task(send(lines)))
-        await asyncio.gather(*tasks)
+        await each(parts_of(lines, MOST_IN_BLOCK), self.words.loads_at_once, send)
 
-    async def load_by_graph_store(self, path: pathlib.Path) -> None:
-        """Puts the file as the graph (SPARQL 1.1 Graph Store HTTP Protocol)."""
+    async def load_by_graph_store(self, lines: Lines) -> None:
+        """Adds parts to the graph (SPARQL 1.1 Graph Store HTTP Protocol)."""
         mark = "&" if "?" in self.words.graph_store else "?"
         url = f"{self.words.graph_store}{mark}graph={urllib.parse.quote(self.mirror.graph, safe='')}"
-        body = await asyncio.to_thread(path.read_bytes)
-        await self.post(url, body, "application/n-triples", "PUT", 24 * 3600)
 
-    async def load_by_isql(self, path: pathlib.Path) -> None:
-        """Gives the file to Virtuoso's own loader, by SQL."""
-        there = pathlib.Path(self.words.load_folder) / f"wdq-{self.mirror.graph.encode().hex()[:40]}.nt"
-        try:
-            await asyncio.to_thread(shutil.copyfile, path, there)
-            there.chmod(0o644)
-            await self.isql(
-                f"DELETE FROM DB.DBA.load_list WHERE ll_file = '{there}'; "
-                f"ld_dir('{there.parent}', '{there.name}', '{self.mirror.graph}'); rdf_loader_run(); checkpoint;"
-            )
-            said = await self.isql(f"SELECT 'state', ll_state, ll_error FROM DB.DBA.load_list WHERE ll_file = '{there}';")
-            if not any(line.split()[:3] == ["state", "2", "NULL"] for line in said.splitlines()):
-                raise Unreachable(f"Virtuoso's loader failed: {said[-500:].strip()}")
-        except OSError as error:
-            raise Unreachable(f"{there} can't be written: {error}") from None
-        finally:
-            there.unlink(missing_ok=True)
+        async def send(part: list[str]) -> None:
+            await self.post(url, file_of(part), "application/n-triples", seconds=3600)
+
+        await each(parts_of(lines, MOST_IN_FILE), 1, send)
+
+    async def load_by_isql(self, lines: Lines) -> None:
+        """Gives parts to Virtuoso's own loader, by SQL, several at a time and without its log; then it writes all to the disk."""
+        folder, name = pathlib.Path(self.words.load_folder), f"wdq-{hashlib.sha256(self.mirror.graph.encode()).hexdigest()[:16]}"
+        numbers = itertools.count(1)
+
+        async def send(part: list[str]) -> None:
+            path = folder / f"{name}-{next(numbers):06}.nt"
+            try:
+                await asyncio.to_thread(path.write_bytes, file_of(part))
+                path.chmod(0o644)
+                await self.isql(f"log_enable(2, 1); DB.DBA.TTLP(file_open({text_of_sql(path)}), '', {text_of_sql(self.mirror.graph)}, {AS_LOADER});")
+            except OSError as error:
+                raise Unreachable(f"{path} can't be written: {error.strerror}: make room, or see to it that wdq-mirror may write there") from None
+            finally:
+                path.unlink(missing_ok=True)
+
+        for path in folder.glob(f"{name}-*.nt"):
+            # A load that was killed left it.
+            path.unlink()
+        await each(parts_of(lines, MOST_IN_FILE), self.words.loads_at_once, send)
+        await self.isql("checkpoint;")
 
     async def isql(self, statements: str) -> str:
         """Runs SQL."""
@@ -226,9 +263,15 @@ class SparqlStore:
             )
         except OSError as error:
             raise Usage(f"store.isql, {words[0]}, doesn't run: {error.strerror}") from None
-        said = (await child.communicate())[0].decode(errors="replace")
+        try:
+            said = (await child.communicate())[0].decode(errors="replace")
+        finally:
+            if child.returncode is None:
+                child.kill()
         if child.returncode or "*** Error" in said:
-            raise Unreachable(f"{words[0]} failed: {said[-500:].strip()}")
+            hint = "; name store.load_folder in DirsAllowed of virtuoso.ini, and start Virtuoso again" if "access control in ini file" in said else ""
+            told = " ".join(said[max(0, said.find("*** Error")) :].split())
+            raise Unreachable(f"{words[0]} failed: {told[:300]}{hint}")
         return said
 
     async def close(self) -> None:
