@@ -1,5 +1,5 @@
 #!/usr/bin/env bash
-# Runs the repository's own checks over the program, in at most five minutes once it is built.
+# Runs the repository's own checks over the program, in at most ten minutes once it is built.
 #
 #   scripts/check.sh
 #
@@ -128,6 +128,8 @@ run_checks() {
   check_program pages 400 python3 scripts/slow_pages.py --once --most 20 "$WDQ"
   check_program commands 240 python3 python3 scripts/check_commands.py
   check_mirror
+  check_program library 1200 'rt cc' scripts/library.sh --test
+  check_program page 600 'rt chromium' scripts/page.sh --test
 }
 
 run_checks

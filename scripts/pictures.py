@@ -82,8 +82,8 @@ def event():
     picture.arrow((40, 224), (40, 290), "late events")
     picture.arrow((390, 224), (290, 290))
     picture.text(312, 256, "unusable pages", "label", "end")
-    picture.arrow((590, 224), (590, 290), "triples come and go", "end")
-    picture.box((20, 290, 290, 74), "out", ["side output", "what wasn't applied, and", "whether it still matters"])
+    picture.arrow((590, 224), (590, 290), "triples added and removed", "end")
+    picture.box((20, 290, 290, 74), "out", ["side output", "what wasn't applied, and", "whether it is still open"])
     picture.box((350, 290, 270, 74), "store", ["store", "each triple once, with the", "number of its owners"])
     picture.arrow((165, 364), (165, 416))
     picture.arrow((485, 364), (485, 416))
@@ -146,7 +146,7 @@ def machines():
         picture.arrow((middle, 260), (middle, 310), "records")
         picture.box((x, 310, 180, 74), "store", [f"graph {number}", "the triples", f"of part {number}"])
         picture.arrow((middle, 384), (middle, 430))
-    picture.box((20, 430, 600, 110), "out", ["the query service", "asks the union of the graphs.", "A triple of two parts stands in two graphs,", "and stays until both have removed it"])
+    picture.box((20, 430, 600, 110), "out", ["the query service", "asks the union of the graphs.", "A triple of two parts is in two graphs,", "and stays until both have removed it"])
     return picture
 
 
