@@ -17,6 +17,5 @@ pub mod AgreePages
 pub mod LightTrees
 pub mod SmallPages
 pub mod Outcomes
-pub mod AnswerLemmas
 pub mod Fitness
 pub mod Owned

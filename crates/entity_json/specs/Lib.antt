@@ -5,7 +5,6 @@ pub mod Finds
 pub mod Reading
 pub mod Document
 pub mod Faults
-pub mod Answers
 pub mod Members
 pub mod Joined
 pub mod Items

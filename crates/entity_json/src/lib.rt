@@ -1,11 +1,10 @@
-//! The documents of entity pages in JSON.
+//! The pages of entities in JSON, by the values that their texts are. The crate `entity_documents` reads the texts.
 //!
-//! `documents` has the calls, and `page` the page of a tree: a redirect, an item or property of `entity`, or a lexeme of
+//! `page` has the page of a value: a redirect, an item or property of `entity`, or a lexeme of
 //! `lexeme`, with the parts that `terms`, `statements`, `snaks`, `values`, `links` and `items` read. All of these read leaves by `leaf` and `number`, maps by
 //! `map`, and lists by the loops of `each`. `part` and `fault` have what a part and a page are refused for.
 #![tactic(auto)]
 
-mod documents;
 mod each;
 mod entity;
 mod fault;
@@ -23,11 +22,10 @@ mod statements;
 mod terms;
 mod values;
 
-pub use documents::{PAGE_LIMIT, discard, document};
 pub use fault::DocumentFault;
 pub use laws::{
     a_tree_has_one_page, documents_are_of_their_entities, documents_are_pages, documents_are_small,
     unfit_pages_have_causes,
 };
-pub use page::{Page, page_of};
+pub use page::{PAGE_LIMIT, Page, discard, page_of};
 pub use part::PartFault;

@@ -13,6 +13,9 @@ use entity_model::{Document, EntityId, IdKind};
 use json_spell::Json;
 use std::alloc::Global;
 
+/// How many bytes a page may have.
+pub const PAGE_LIMIT: usize = 8_388_608;
+
 /// The page of an entity.
 #[derive(Drop)]
 pub struct Page<'a> {
@@ -100,4 +103,9 @@ pub fn page_of<'a>(alloc: Global, json: &Json<'_, 'a>) -> Result<Page<'a>, PartF
     ensures { Finds result (page_of (json_view json.now)) }
 {
     page_at(alloc, page_tree_of(json)?)
+}
+
+/// Gives back the memory of a document. So the drop of all that a document may hold is proved here, and not in each crate that has one.
+pub fn discard(document: Document<'_>) {
+    drop(document);
 }

@@ -10,7 +10,7 @@ use Rattle.json_differing.specs.declared.differing.Paired.{Paired}
 use Rattle.json_spell.specs.Tree.{Tree, object, Pairs, no_pairs}
 use Rattle.json_spell.specs.View.{json_view, member_view, pairs_of}
 use Rattle.json_spell.specs.Grammar.{is_ws}
-use Rattle.json_spell.specs.Reading.{after_byte, list_by, member_by, members_at, name_at, read_map, skip, spaced, value_at}
+use Rattle.json_spell.specs.Reading.{key_at, list_by, member_by, members_at, read_map, skip, spaced, value_at}
 use Rattle.json_spell.specs.Nesting.{Nests}
 use Rattle.json_differing.specs.Differing.{AreApart, AreLess, Inside}
 use Rattle.json_differing.specs.Found.{AreDiffering, AreFound, AreNamed, MemberFound, MembersFound}
@@ -20,7 +20,7 @@ use Rattle.json_spell.proofs.Complete.{text-sound}
 use Rattle.json_spell.proofs.Levels.{reads_low}
 use Rattle.json_differing.proofs.Readables.{member_has, object_has}
 use Rattle.json_differing.proofs.SpelledLists.{members_nest}
-use Rattle.json_spell.proofs.ValueSteps.{value_at-object}
+use Rattle.json_spell.proofs.ValueSteps.{member-key, value_at-object}
 
 -- two maps, each less the members that both have
 pub less_found : (levels : ℕ) (inside : Texts) (found : Found) (olds news own_old own_new : List Spelled) (gone come : List Member)
@@ -101,24 +101,24 @@ object_found depth levels n texts inside found ended deeper old_opened new_opene
       nests = subst (λ (m : ℕ). Nests m (object f.news)) (sym deeper) f.nests;
     }
 
--- a member, by its name, its colon and its value
-member-read : (s r rest q name : List ℕ) (t : Tree) → spaced name_at s ≡ Some (name, r) → after_byte 0x3A r ≡ Some rest → spaced value_at rest ≡ Some (t, q) → member_by value_at s ≡ Some ((name, t), q)
-member-read s r rest q name t named colon read = rw (named, colon, read) refl
+-- a member, by its name with the colon and its value
+member-read : (s rest q name : List ℕ) (t : Tree) → key_at s ≡ Some (name, rest) → spaced value_at rest ≡ Some (t, q) → member_by value_at s ≡ Some ((name, t), q)
+member-read s rest q name t key read = member-key value_at s name rest key ∙ ap (read_map (λ (u : Tree). (name, u))) read
 
 pub member_found : (depth levels : ℕ) (texts : Texts) (named : Named) (found : Found) (paired : Paired) → AreNamed texts named → (HasValue levels named.rests.old.now → AreFound depth levels named.rests found)
     → member_view paired.old ≡ (named.name.now, json_view found.old) → member_view paired.new ≡ (named.name.now, json_view found.new)
     → paired.rests.old.now ≡ found.rests.old.now → paired.rests.new.now ≡ found.rests.new.now → HasMember levels texts.old.now → MemberFound depth levels texts paired
 member_found depth levels texts named found paired n told old_is new_is old_rest new_rest has =
-    let f = told (member_has levels texts.old.now n.old_rest named.rests.old.now named.name.now n.old_name n.old_colon has) in
+    let f = told (member_has levels texts.old.now named.rests.old.now named.name.now n.old_key has) in
     record {
       name = named.name.now;
       old = f.old;
       new = f.new;
       gone = json_view found.old;
       come = json_view found.new;
-      old_read = member-read texts.old.now n.old_rest named.rests.old.now found.rests.old.now named.name.now f.old n.old_name n.old_colon f.old_read
+      old_read = member-read texts.old.now named.rests.old.now found.rests.old.now named.name.now f.old n.old_key f.old_read
           ∙ ap (λ q. Some ((named.name.now, f.old), q)) (sym old_rest);
-      new_read = member-read texts.new.now n.new_rest named.rests.new.now found.rests.new.now named.name.now f.new n.new_name n.new_colon f.new_read
+      new_read = member-read texts.new.now named.rests.new.now found.rests.new.now named.name.now f.new n.new_key f.new_read
           ∙ ap (λ q. Some ((named.name.now, f.new), q)) (sym new_rest);
       gone_is = old_is;
       come_is = new_is;

@@ -1,17 +1,17 @@
 -- What can be read in front of a text, by what can be read of the whole.
-use Rattle.std.proofs.Common.{◌≡◌, ℕ, suc, Bool, true, false, ◌==◌, cond, List, [], ◌∷◌, map, Option, Some, None, All, Bor, option_map, refl, sym, ap, subst, ◌∙◌}
+use Rattle.std.proofs.Common.{◌≡◌, ℕ, suc, Bool, true, false, ◌==◌, cond, List, [], ◌∷◌, map, Option, Some, None, All, refl, sym, ap, subst, ◌∙◌}
 use Rattle.std.proofs.lemmas.List.Elements.{All-cons, All-nil}
 use Rattle.json_differing.specs.declared.spelled.Spelled.{Spelled}
 use Rattle.json_spell.specs.Tree.{Tree, object, Pairs, no_pairs}
 use Rattle.json_spell.specs.Grammar.{is_ws}
 use Rattle.json_spell.specs.Nesting.{Nests, MembersNest}
 use Rattle.json_differing.specs.Readable.{HasMember, HasMembers, HasMore, HasValue}
-use Rattle.json_spell.specs.Reading.{add_pair, after_byte, after_name, after_part, closed, list_by, member_by, members_at, name_at, read_map, skip, spaced, value_at, ◌>>=◌}
+use Rattle.json_spell.specs.Reading.{add_pair, after_byte, after_part, closed, key_at, list_by, member_by, members_at, read_map, skip, spaced, value_at}
 use Rattle.json_differing.specs.Spelled.{SpelledNests, spelled_view}
 use Rattle.json_spell.specs.View.{pairs_of}
 use Rattle.json_spell.proofs.ListSteps.{onto}
 use Rattle.json_spell.proofs.Opened.{bind_some, map_some, some_is}
-use Rattle.json_spell.proofs.ValueSteps.{members_at-is, value_at-object}
+use Rattle.json_spell.proofs.ValueSteps.{member-key, members_at-is, value_at-object}
 
 -- the members of an object
 pub object_has : (n : ℕ) (s inside : List ℕ) → skip is_ws s ≡ 0x7B ∷ inside → HasValue (suc n) s → HasMembers n inside
@@ -22,12 +22,9 @@ object_has n s inside is has =
     record { members = k.0.0; rest = k.0.1; read = k.1.0; nest = subst (λ (t : Tree). Nests (suc n) t) tree_is has.nests }
 
 -- the value of a member
-pub member_has : (n : ℕ) (s r rest name : List ℕ) → spaced name_at s ≡ Some (name, r) → after_byte 0x3A r ≡ Some rest → HasMember n s → HasValue n rest
-member_has n s r rest name named colon has =
-    let there : after_name value_at name r ≡ Some ((has.name, has.tree), has.rest) = ap (λ (o : Option (List ℕ × List ℕ)). o >>= λ p. after_name value_at p.0 p.1) (sym named) ∙ has.read in
-    let read : read_map (λ (t : Tree). (name, t)) (spaced value_at rest) ≡ Some ((has.name, has.tree), has.rest) =
-    ap (λ (o : Option (List ℕ)). o >>= λ q. read_map (λ (t : Tree). (name, t)) (spaced value_at q)) (sym colon) ∙ there in
-    let m = map_some (λ (p : Tree × List ℕ). ((name, p.0), p.1)) (spaced value_at rest) read in
+pub member_has : (n : ℕ) (s rest name : List ℕ) → key_at s ≡ Some (name, rest) → HasMember n s → HasValue n rest
+member_has n s rest name key has =
+    let m = map_some (λ (p : Tree × List ℕ). ((name, p.0), p.1)) (spaced value_at rest) (sym (member-key value_at s name rest key) ∙ has.read) in
     let tree_is : has.tree ≡ m.0.0 = ap (λ (q : (List ℕ × Tree) × List ℕ). q.0.1) (sym m.1.1) in
     record { tree = m.0.0; rest = m.0.1; read = m.1.0; nests = subst (λ (t : Tree). Nests n t) tree_is has.nests }
 
@@ -35,10 +32,6 @@ member_has n s r rest name named colon has =
 pub open_has : (n : ℕ) (s : List ℕ) → after_byte 0x7D (skip is_ws s) ≡ None → HasMembers n s → HasMore n s
 open_has n s none has =
     record { members = has.members; rest = has.rest; read = sym (ap (closed no_pairs (members_at s)) none) ∙ has.read; nest = has.nest }
-
--- the same by what the reader looked at
-pub open_more : (n : ℕ) (s left : List ℕ) {r : Option (Bor (List ℕ))} → left ≡ skip is_ws s → option_map (λ rest. rest.now) r ≡ after_byte 0x7D left → r ≡ None → HasMembers n s → HasMore n s
-open_more n s left is e none has = open_has n s (ap (after_byte 0x7D) (sym is) ∙ sym e ∙ ap (option_map (λ rest. rest.now)) none) has
 
 -- what a part leads to
 part_of : (n : ℕ) (s : List ℕ) (has : HasMore n s)
@@ -80,9 +73,9 @@ next_has n s m r byte rest read r_is is has =
     }
 
 -- members in front of what is left of all
-pub left_has : (n : ℕ) (xs : List (List ℕ × Tree)) (left whole : List ℕ) → read_map (onto add_pair xs) (members_at left) ≡ members_at whole → HasMore n whole → HasMore n left
+pub left_has : (n : ℕ) (xs : List (List ℕ × Tree)) (left whole : List ℕ) → list_by no_pairs 0x7D members_at whole ≡ read_map (onto add_pair xs) (members_at left) → HasMembers n whole → HasMore n left
 left_has n xs left whole same has =
-    let m = map_some (λ (q : Pairs × List ℕ). (onto add_pair xs q.0, q.1)) (members_at left) (same ∙ has.read) in
+    let m = map_some (λ (q : Pairs × List ℕ). (onto add_pair xs q.0, q.1)) (members_at left) (sym same ∙ has.read) in
     record {
       members = m.0.0;
       rest = m.0.1;

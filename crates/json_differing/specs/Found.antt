@@ -9,7 +9,7 @@ use Rattle.json_spell.specs.Tree.{Tree, object, Pairs, no_pairs}
 use Rattle.json_spell.specs.View.{json_view, member_view}
 use Rattle.json_spell.specs.Grammar.{Reads}
 use Rattle.json_spell.specs.Deep.{IsDeep}
-use Rattle.json_spell.specs.Reading.{after_byte, list_by, member_by, members_at, name_at, spaced, value_at}
+use Rattle.json_spell.specs.Reading.{key_at, list_by, member_by, members_at, spaced, value_at}
 use Rattle.json_spell.specs.Nesting.{Nests, MembersNest}
 use Rattle.json_differing.specs.Differing.{Differ}
 
@@ -37,12 +37,8 @@ pub record MembersFound (P : Pairs → Pairs → Pairs → Pairs → Type 0) (le
 
 -- the texts have one name in front, and a colon after it
 pub record AreNamed (texts : Texts) (named : Named) : Type 0 where
-  pub old_rest : List ℕ
-  pub new_rest : List ℕ
-  pub old_name : spaced name_at texts.old.now ≡ Some (named.name.now, old_rest)
-  pub new_name : spaced name_at texts.new.now ≡ Some (named.name.now, new_rest)
-  pub old_colon : after_byte 0x3A old_rest ≡ Some named.rests.old.now
-  pub new_colon : after_byte 0x3A new_rest ≡ Some named.rests.new.now
+  pub old_key : key_at texts.old.now ≡ Some (named.name.now, named.rests.old.now)
+  pub new_key : key_at texts.new.now ≡ Some (named.name.now, named.rests.new.now)
 
 -- the texts have members of one name in front
 pub record MemberFound (depth levels : ℕ) (texts : Texts) (paired : Paired) : Type 0 where

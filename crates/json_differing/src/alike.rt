@@ -5,7 +5,7 @@ ghost use Rattle.std.specs.Prelude.{◌≤◌, length};
 
 use crate::brackets::to_mark;
 use crate::shared::shared_bytes;
-use json_spell::{before, skip_ws};
+use json_reader::{before, skip_ws};
 
 // Where a text goes on, the part before, and how many brackets are open there. A part is a member with the comma before it, or a closing bracket.
 #[derive(Clone, Copy)]

@@ -4,7 +4,7 @@ ghost use Rattle.std.specs.Prelude.{◌≡◌, ◌∷◌, false, None, IfSome};
 ghost use Rattle.json_spell.specs.{Reading.after_byte, Reading.skip, Grammar.is_ws};
 
 use crate::differing::Texts;
-use json_spell::{after_byte, next, skip_ws};
+use json_reader::{after_byte, next, skip_ws};
 
 // The byte that both texts have in front, and what follows it.
 pub(crate) fn next_of_both<'a>(texts: Texts<'a>) -> Option<(u8, Texts<'a>)>

@@ -7,7 +7,8 @@ ghost use Rattle.json_spell.specs.Closed.{ends_itself};
 ghost use Rattle.json_differing.specs.{Brackets.is_inner, Brackets.is_mark, Brackets.parts_strings, Brackets.past_from};
 ghost use Rattle.json_spell.specs.{Nesting.Nests, Reading.skip, Reading.value_at, Tree.Tree};
 
-use json_spell::{LEVELS, after_byte, is_opening, next, past};
+use json_reader::{LEVELS, after_byte, next, past};
+use json_spell::is_opening;
 use std::simd::prelude::*;
 
 // How many bytes are looked at together.

@@ -15,7 +15,8 @@ use crate::scanned::scan_members;
 use crate::spelled::read_spelled_members;
 use bumpalo::Bump;
 use bumpalo::collections::into_bump_slice;
-use json_spell::{Json, LEVELS, Member, after_byte, read_name, read_spaced, skip_ws};
+use json_reader::{LEVELS, after_byte, read_key, read_spaced, skip_ws};
+use json_spell::{Json, Member};
 use std::alloc::Global;
 
 // Where each of two texts is read on.
@@ -136,13 +137,11 @@ fn name_of_both<'b, 'a: 'b>(arena: &'b Bump, texts: Texts<'a>) -> Option<Named<'
     ensures named { IfSome result (AreNamed texts.entry) }
     ensures no_longer { IfSome result (λ named. length named.rests.new.now ≤ length texts.entry.new.now) }
 {
-    let (name, old) = read_name(arena, texts.old).ok()?;
-    let (new_name, new) = read_name(arena, texts.new).ok()?;
+    let (name, old) = read_key(arena, texts.old).ok()?;
+    let (new_name, new) = read_key(arena, texts.new).ok()?;
     if name != new_name {
         return None;
     }
-    let old = after_byte(old, b':')?;
-    let new = after_byte(new, b':')?;
     Some(Named {
         name,
         rests: Texts { old, new },

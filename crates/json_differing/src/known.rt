@@ -3,7 +3,7 @@
 ghost use Rattle.std.specs.Prelude.{◌≡◌, ◌≤◌, length, true, Some, IfSome};
 ghost use Rattle.json_spell.specs.{Tree.Tree, Closed.ends_itself, Grammar.IsValue, Reading.spaced, Reading.value_at};
 
-use json_spell::skip_ws;
+use json_reader::skip_ws;
 
 // What follows a value with white space around it that is spelled as `known`: an array, an object or a string, whole. What such
 // a text is a value of is what the text has there.

@@ -9,7 +9,8 @@ use crate::spelled::Spelled;
 use base::OutOfMemory;
 use bumpalo::Bump;
 use bumpalo::collections::into_bump_slice;
-use json_spell::{Json, Member, read_spaced};
+use json_reader::read_spaced;
+use json_spell::{Json, Member};
 use std::alloc::Global;
 use std::collections::BTreeSet;
 

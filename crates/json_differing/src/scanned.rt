@@ -11,7 +11,8 @@ use crate::brackets::past_value;
 use crate::spelled::{ROOM, Spelled, repeats, text_of_value};
 use bumpalo::Bump;
 use bumpalo::collections::into_bump_slice;
-use json_spell::{JsonFault, after_byte, before, next, read_name, skip_ws};
+use json_reader::{after_byte, after_part, before, read_key, skip_ws};
+use json_spell::JsonFault;
 
 // The text of a value, whether it is in brackets, and what follows it.
 #[derive(Clone, Copy)]
@@ -70,10 +71,7 @@ fn scan_member<'b, 'a: 'b>(
     ensures known { HasMember levels bytes.now → IfOk result (λ p. IsKnown p.0) }
     ensures no_longer { IfOk result (λ p. length p.1.now ≤ length bytes.now) }
 {
-    let (key, rest) = read_name(arena, bytes)?;
-    let Some(value) = after_byte(rest, b':') else {
-        return Err(JsonFault::NotJson);
-    };
+    let (key, value) = read_key(arena, bytes)?;
     let found = scan_value(arena, levels, value)?;
     let Scanned { text, closed, rest } = found;
     let spelled = Spelled {
@@ -107,14 +105,9 @@ pub(crate) fn scan_members<'b, 'a: 'b>(
             return Err(JsonFault::NotJson);
         }
         members.push(member)?;
-        let Some((byte, rest)) = next(rest) else {
-            return Err(JsonFault::NotJson);
-        };
-        if byte == b'}' {
+        let (more, rest) = after_part(rest, b'}')?;
+        if !more {
             return Ok((into_bump_slice(members), rest));
-        }
-        if byte != b',' {
-            return Err(JsonFault::NotJson);
         }
         left = rest;
     }

@@ -2,7 +2,7 @@
 
 ghost use Rattle.std.specs.Prelude.{◌≤◌, length, IfSome};
 
-use json_spell::past;
+use json_reader::past;
 use std::simd::prelude::*;
 
 // How many bytes are compared together.

@@ -9,7 +9,8 @@ ghost use Rattle.json_spell.specs.{Nesting.MembersNest, Nesting.Nests, View.pair
 use crate::known::after_known;
 use bumpalo::Bump;
 use bumpalo::collections::into_bump_slice;
-use json_spell::{JsonFault, after_byte, before, next, read_name, read_value, skip_ws};
+use json_reader::{after_byte, after_part, before, read_key, read_value, skip_ws};
+use json_spell::JsonFault;
 
 // How many members of the other object are looked at for one of the same name.
 const WINDOW: usize = 8;
@@ -129,10 +130,7 @@ fn read_spelled_member<'b, 'a: 'b>(
     ensures no_longer { IfOk result (λ p. length p.1.now ≤ length bytes.now) }
     ensures nests { All (SpelledNests levels) known.now → IfOk result (λ p. SpelledNests levels p.0) }
 {
-    let (key, rest) = read_name(arena, bytes)?;
-    let Some(rest) = after_byte(rest, b':') else {
-        return Err(JsonFault::NotJson);
-    };
+    let (key, rest) = read_key(arena, bytes)?;
     if let Some(found) = twin_of(known, search.first, key, rest) {
         let Twin { index, text, rest } = found;
         let spelled = Spelled {
@@ -208,14 +206,9 @@ pub(crate) fn read_spelled_members<'b, 'a: 'b>(
         }
         search = behind(search, &member);
         members.push(member)?;
-        let Some((byte, rest)) = next(rest) else {
-            return Err(JsonFault::NotJson);
-        };
-        if byte == b'}' {
+        let (more, rest) = after_part(rest, b'}')?;
+        if !more {
             return Ok((into_bump_slice(members), rest));
-        }
-        if byte != b',' {
-            return Err(JsonFault::NotJson);
         }
         left = rest;
     }

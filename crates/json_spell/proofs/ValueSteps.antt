@@ -1,9 +1,9 @@
 -- The bound on nesting never matters, so a value is read by one step and then the same again.
-use Rattle.std.proofs.Common.{◌≡◌, ℕ, zero, suc, ◌<◌, ◌≤◌, false, ◌==◌, List, [], ◌∷◌, length, Option, Some, None, refl, sym, ap, ◌∙◌, arith}
+use Rattle.std.proofs.Common.{◌≡◌, ℕ, zero, suc, ◌<◌, ◌≤◌, false, ◌==◌, List, [], ◌∷◌, length, Option, Some, None, option_map, refl, sym, ap, ◌∙◌, arith}
 use Rattle.json_spell.specs.Tree.{Tree, string, array, object, Trees, no_trees, tree, Pairs, no_pairs}
 use Rattle.json_spell.specs.Text.{IsString}
 use Rattle.json_spell.specs.Grammar.{is_ws, Spaced, IsValue}
-use Rattle.json_spell.specs.Reading.{Parse, read_map, ◌>>=◌, skip, after_byte, spaced, after_part, parts_by, parts, list_by, content_at, scalar_at, name_at, after_name, member_by, add_pair, values, members, value_by, value, value_at, values_at, members_at}
+use Rattle.json_spell.specs.Reading.{Parse, read_map, ◌>>=◌, skip, after_byte, spaced, after_part, parts_by, parts, list_by, content_at, scalar_at, name_at, key_at, after_name, member_by, add_pair, values, members, value_by, value, value_at, values_at, members_at}
 use Rattle.json_spell.proofs.Skips.{skip-le}
 use Rattle.json_spell.proofs.Lists.{Sound, Shrinks, found-le, after_byte-sound, spaced-sound, parts-same}
 use Rattle.json_spell.proofs.Values.{Member, name-sound, member-sound, value-sound}
@@ -112,3 +112,26 @@ pub value_at-scalar : (s : List ℕ) (x : ℕ) (r : List ℕ) → s ≡ x ∷ r 
 value_at-scalar s x r e a b c =
     let there : value_by values_at members_at (x ∷ r) ≡ scalar_at (x ∷ r) = rw (a, b, c) refl in
     value_at-is s ∙ ap (value_by values_at members_at) e ∙ there ∙ ap scalar_at (sym e)
+
+-- a member by its name with the colon, and then its value
+abbrev keyed : List ℕ → Option (List ℕ) → Option (List ℕ × List ℕ)
+keyed name o = option_map (λ rest. (name, rest)) o
+
+member-after_name : (read : Parse Tree) (name : List ℕ) (o : Option (List ℕ))
+    → (o >>= λ rest. read_map {B = List ℕ × Tree} (λ t. (name, t)) (spaced read rest)) ≡ (keyed name o >>= λ k. read_map {B = List ℕ × Tree} (λ t. (k.0, t)) (spaced read k.1))
+member-after_name read name None = refl
+member-after_name read name (Some rest) = refl
+
+member-by_name : (read : Parse Tree) (o : Option (List ℕ × List ℕ))
+    → (o >>= λ p. after_name read p.0 p.1) ≡ ((o >>= λ p. keyed p.0 (after_byte 0x3A p.1)) >>= λ k. read_map {B = List ℕ × Tree} (λ t. (k.0, t)) (spaced read k.1))
+member-by_name read None = refl
+member-by_name read (Some p) = member-after_name read p.0 (after_byte 0x3A p.1)
+
+member-by_key : (read : Parse Tree) (s : List ℕ) → member_by read s ≡ (key_at s >>= λ k. read_map (λ t. (k.0, t)) (spaced read k.1))
+member-by_key read s = member-by_name read (spaced name_at s)
+
+pub member-no_key : (read : Parse Tree) (s : List ℕ) → key_at s ≡ None → member_by read s ≡ None
+member-no_key read s e = member-by_key read s ∙ ap (λ o. o >>= λ k. read_map (λ t. (k.0, t)) (spaced read k.1)) e
+
+pub member-key : (read : Parse Tree) (s name rest : List ℕ) → key_at s ≡ Some (name, rest) → member_by read s ≡ read_map (λ t. (name, t)) (spaced read rest)
+member-key read s name rest e = member-by_key read s ∙ ap (λ o. o >>= λ k. read_map (λ t. (k.0, t)) (spaced read k.1)) e

@@ -1,5 +1,4 @@
 pub mod Tree
-pub mod Content
 pub mod View
 pub mod Grammar
 pub mod Number

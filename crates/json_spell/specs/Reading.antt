@@ -135,6 +135,11 @@ after_part cons none close more a [] = None
 after_part cons none close more a (x ∷ s) =
     cond (x == 0x2C) (read_map (cons a) (more s)) (cond (x == close) (Some (cons a none, s)) None)
 
+-- what stands behind a part: a separator, and more parts follow, or else the closing bracket
+abbrev pub ending_at : ℕ → Parse Bool
+ending_at close [] = None
+ending_at close (x ∷ s) = cond (x == 0x2C) (Some (true, s)) (cond (x == close) (Some (false, s)) None)
+
 abbrev pub parts_by : {A L : Type 0} → Parse A → (A → L → L) → L → ℕ → Parse L → Parse L
 parts_by part cons none close more s = part s >>= λ p. after_part cons none close more p.0 p.1
 
@@ -155,6 +160,10 @@ list_by none close more s = closed none (more s) (after_byte close (skip is_ws s
 -- a name in quotation marks
 abbrev pub name_at : Parse (List ℕ)
 name_at s = after_byte 0x22 s >>= content_at
+
+-- the name of a member, and its colon
+abbrev pub key_at : Parse (List ℕ)
+key_at s = spaced name_at s >>= λ p. option_map (λ rest. (p.0, rest)) (after_byte 0x3A p.1)
 
 -- the value of a member, after its name
 abbrev pub after_name : Parse Tree → List ℕ → Parse (List ℕ × Tree)

@@ -41,9 +41,9 @@ fn is_closing(byte: u8) -> bool
     byte == b']' || byte == b'}'
 }
 
-// Whether more than 64 brackets are open at some byte, beyond those that have closed.
+/// Whether more than 64 brackets are open at some byte, beyond those that have closed.
 #[tactic(auto, unfolding(crate::specs::Deep::deep_from))]
-pub(crate) fn is_deep(bytes: &[u8]) -> bool
+pub fn is_deep(bytes: &[u8]) -> bool
     ensures { result ≡ deep_from Position.Outside 0 0 bytes.now }
 {
     let mut position = Position::Outside;
