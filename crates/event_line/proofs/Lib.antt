@@ -1,4 +1,4 @@
-pub mod CompactLines
+pub mod PlainLines
 pub mod Reading
 pub mod TermReading
 pub mod Places

@@ -1,4 +1,5 @@
-pub mod Compact
+pub mod Pieces
+pub mod Plain
 pub mod Line
 pub mod Query
 pub mod Time

@@ -1,26 +1,25 @@
 // One line of an event file.
 
 ghost use Rattle.std.specs.Prelude.{◌≡◌, ◌⊎◌, None, Some, MatchResult, IfOk};
-ghost use Rattle.serde_json.specs.View.{view};
-ghost use Rattle.term_reading.specs.Reader.{read as term_of};
-ghost use Rattle.event_line.specs.Line.{Answers, AnswersPart, data_of, delivery_in, else_cause, event_in, watermark_in, ask_in, mapping_in, match_in, version_of, pattern_of, pattern_with, wanted_in, kind_named, kind_name, entity_of, rev_of, time_at, whole_kind};
+ghost use Rattle.serde_json.specs.{Data.string, View.view};
+ghost use Rattle.event_line.specs.Line.{Answers, AnswersPart, data_of, delivery_in, else_cause, event_in, watermark_in, ask_in, mapping_in, match_in, version_of, pattern_of, pattern_with, term_wanted_by, kind_named, kind_name, entity_of, rev_of, time_at, whole_kind};
 ghost use Rattle.event_line.specs.declared.faults.DeliveryFault.TheVariants.{Bad as Refused, OutOfMemory as DeliveryOutOfMemory};
 ghost use Rattle.event_line.specs.declared.faults.LineCause.TheVariants.{NotJson as NoJson};
 
-use crate::compact::compact_event;
 use crate::faults::{DeliveryFault, LineCause};
+use crate::plain::{AskTexts, ask_texts, plain_event, plain_watermark};
 use crate::query::query;
+use crate::term::term;
 use crate::time;
 use delivery::Delivery;
 use entity_model::{EntityId, Event, Kind, MappingVersion};
-use rdf_term::{OutOfMemory, Pattern, Term};
+use rdf_term::{Pattern, Term};
 use serde_json::Value;
 use std::alloc::Global;
-use term_reading::read_term;
 
 /// What `kind` says of an event. Of a reconciliation, `mode` says the rest.
 #[derive(Clone, Copy)]
-enum KindName {
+pub(crate) enum KindName {
     Edit,
     Delete,
     Undelete,
@@ -40,8 +39,14 @@ enum KindName {
 pub fn delivery(alloc: Global, line: &[u8]) -> Result<Delivery, DeliveryFault>
     ensures { Answers line.now result }
 {
-    if let Some(event) = compact_event(line) {
+    if let Some(event) = plain_event(line) {
         return Ok(Delivery::Event(event));
+    }
+    if let Some(time) = plain_watermark(line) {
+        return Ok(Delivery::Watermark(time));
+    }
+    if let Some(texts) = ask_texts(line) {
+        return Ok(Delivery::Ask(pattern_with(alloc, texts)?));
     }
     let value = read_value(alloc, line)?;
     delivery_in(alloc, &value)
@@ -148,30 +153,32 @@ fn pattern(alloc: Global, value: &Value) -> Result<Pattern, DeliveryFault>
     ensures { AnswersPart (else_cause LineCause.Pattern (pattern_of (view value.now)) Ok) result }
 {
     match value.as_array().ok_or(LineCause::Pattern)?.as_slice() {
-        [subject, predicate, object] => pattern_with(alloc, subject, predicate, object),
+        [subject, predicate, object] => pattern_with(
+            alloc,
+            AskTexts {
+                subject: subject.as_str().ok_or(LineCause::Pattern)?,
+                predicate: predicate.as_str().ok_or(LineCause::Pattern)?,
+                object: object.as_str().ok_or(LineCause::Pattern)?,
+            },
+        ),
         _ => Err(DeliveryFault::Bad(LineCause::Pattern)),
     }
 }
 
-/// The pattern of three values.
-fn pattern_with(
-    alloc: Global,
-    subject: &Value,
-    predicate: &Value,
-    object: &Value,
-) -> Result<Pattern, DeliveryFault>
+/// The pattern of three texts.
+fn pattern_with(alloc: Global, texts: AskTexts<'_>) -> Result<Pattern, DeliveryFault>
     ensures { AnswersPart (else_cause LineCause.Pattern
-        (pattern_with (view subject.now) (view predicate.now) (view object.now)) Ok) result }
+        (pattern_with (string texts.entry.subject.now) (string texts.entry.predicate.now) (string texts.entry.object.now)) Ok) result }
 {
-    let subject = wanted_term(alloc, subject)?;
-    let predicate = match wanted_term(alloc, predicate) {
+    let subject = wanted_term(alloc, texts.subject)?;
+    let predicate = match wanted_term(alloc, texts.predicate) {
         Ok(predicate) => predicate,
         Err(fault) => {
             drop(subject);
             return Err(fault);
         }
     };
-    let object = match wanted_term(alloc, object) {
+    let object = match wanted_term(alloc, texts.object) {
         Ok(object) => object,
         Err(fault) => {
             drop(subject);
@@ -186,22 +193,14 @@ fn pattern_with(
     })
 }
 
-/// What a value wants at its place.
-fn wanted_term(alloc: Global, value: &Value) -> Result<Option<Term>, DeliveryFault>
-    ensures { AnswersPart (else_cause LineCause.Pattern (wanted_in (view value.now)) Ok) result }
+/// What a text wants at its place.
+fn wanted_term(alloc: Global, text: &str) -> Result<Option<Term>, DeliveryFault>
+    ensures { AnswersPart (else_cause LineCause.Pattern (term_wanted_by text.now) Ok) result }
 {
-    match value.as_str().ok_or(LineCause::Pattern)? {
+    match text {
         "?" => Ok(None),
         text => Ok(Some(term(alloc, text)?.ok_or(LineCause::Pattern)?)),
     }
-}
-
-/// The term that a text writes.
-#[tactic(auto, using(crate::proofs::TermReading::answer_read))]
-pub(crate) fn term(alloc: Global, text: &str) -> Result<Option<Term>, OutOfMemory>
-    ensures { IfOk result (λ found. found ≡ term_of text.now) }
-{
-    read_term(alloc, text)
 }
 
 fn kind_name(object: &Value) -> Option<KindName>
@@ -210,7 +209,7 @@ fn kind_name(object: &Value) -> Option<KindName>
     kind_named(object.get("kind")?.as_str()?)
 }
 
-fn kind_named(text: &str) -> Option<KindName>
+pub(crate) fn kind_named(text: &str) -> Option<KindName>
     ensures { result ≡ kind_named text.now }
 {
     match text {

@@ -4,6 +4,7 @@ pub mod Following
 pub mod Heads
 pub mod LineFeeds
 pub mod LineLengths
+pub mod PlainTerms
 pub mod Producers
 pub mod ReadLines
 pub mod Records

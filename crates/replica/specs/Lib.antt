@@ -1,5 +1,6 @@
 pub mod Head
 pub mod Laws
+pub mod PlainTerm
 pub mod Reader
 pub mod Record
 pub mod Replica

@@ -1,5 +1,5 @@
 -- Where a term ends in a line: at the first space that isn't between quotes.
-use Rattle.std.specs.Prelude.{ℕ, List, [], ◌∷◌, ◌==◌, if◌then◌else◌, Option, None, Some}
+use Rattle.std.specs.Prelude.{ℕ, Bool, ◌||◌, List, [], ◌∷◌, ◌==◌, if◌then◌else◌, Option, None, Some}
 use Rattle.term_reading.specs.Reader.{with_front}
 use Rattle.replica.specs.declared.term_end.TermState.{TermState}
 use Rattle.replica.specs.declared.term_end.TermState.TheVariants.{Outside, Quoted, Escaped}
@@ -9,6 +9,10 @@ unfoldable pub term_state_after : TermState → ℕ → TermState
 term_state_after Outside b = if b == 34 then Quoted else Outside
 term_state_after Quoted b = if b == 34 then Outside else (if b == 92 then Escaped else Quoted)
 term_state_after Escaped b = Quoted
+
+-- whether a byte outside quotes ends a term or opens quotes
+abbrev pub is_edge : ℕ → Bool
+is_edge b = (b == 32) || (b == 34)
 
 -- what a byte is to be followed by: nothing, where it is a space outside quotes
 unfoldable pub next_state : TermState → ℕ → Option TermState

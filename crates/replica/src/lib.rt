@@ -1,7 +1,7 @@
 //! Records of patches: their texts, a reader of them, and a replica that follows a producer's store by them.
 //!
 //! `record` has a record and the writing of it, `head` its first line, and `triple_line` a triple by the line that it has in a
-//! record: `term_end` finds where a term ends there. `reader` takes lines and gives records.
+//! record: `term_end` finds where a term ends there, and `plain_term` reads one that has no escape. `reader` takes lines and gives records.
 //! `replica` keeps records until it is their turn; `applying` says what one changes of the triples that are stored.
 //! `laws` has what holds of the definitions themselves.
 #![tactic(auto)]
@@ -9,6 +9,7 @@
 mod applying;
 mod head;
 mod laws;
+mod plain_term;
 mod reader;
 mod record;
 mod replica;

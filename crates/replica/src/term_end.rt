@@ -1,9 +1,10 @@
 // Where a term ends in a line.
 
-ghost use Rattle.std.specs.Prelude.{◌≡◌, ◌∷◌, ◌++◌, List, ℕ, IfSome, MatchOption, true};
+ghost use Rattle.std.specs.Prelude.{◌≡◌, ◌≤◌, ◌∷◌, ◌++◌, List, ℕ, IfSome, MatchOption, false, length, position, take, true};
+ghost use Rattle.std.specs.List.{list_any};
 ghost use Rattle.std.specs.Option.{option_map};
 ghost use Rattle.rdf_term.specs.{declared.term.Term.Term, Fit.is_fit, Text.term_text};
-ghost use Rattle.replica.specs.{declared.term_end.TermState.TheVariants.Outside, TermEnd.next_state, TermEnd.term_state_after, TermEnd.split_term};
+ghost use Rattle.replica.specs.{declared.term_end.TermState.TheVariants.Outside, TermEnd.is_edge, TermEnd.next_state, TermEnd.term_state_after, TermEnd.split_term};
 
 // Where a byte of a line stands.
 #[derive(Clone, Copy, Drop)]
@@ -48,10 +49,46 @@ pub fn split_term(bytes: &[u8]) -> Option<(&[u8], &[u8])>
     ensures parts { IfSome result (λ parts. bytes.now ≡ parts.0.now ++ 32 ∷ parts.1.now) }
     ensures term { (term : Term) (rest : List ℕ) → is_fit term ≡ true → bytes.now ≡ term_text term ++ 32 ∷ rest → MatchOption result ⊥ (λ parts. (parts.0.now ≡ term_text term) × (parts.1.now ≡ rest)) }
 {
-    split_at_space(bytes)
+    split_first(bytes)
 }
 
-// The same, byte by byte.
+// The same: at once if no quote stands before the space, and else byte by byte.
+fn split_first(bytes: &[u8]) -> Option<(&[u8], &[u8])>
+    ensures { option_map (λ parts. (parts.0.now, parts.1.now)) result ≡ split_term Outside bytes.now }
+{
+    match split_unquoted(bytes) {
+        Some(parts) => Some(parts),
+        None => split_at_space(bytes),
+    }
+}
+
+// The bytes before the first space and those after it, if no quote stands before it.
+fn split_unquoted(bytes: &[u8]) -> Option<(&[u8], &[u8])>
+    ensures { IfSome result (λ parts. (bytes.now ≡ parts.0.now ++ 32 ∷ parts.1.now) × (list_any is_edge parts.0.now ≡ false)) }
+{
+    let end = edge_at(bytes)?;
+    let (front, rest) = bytes.split_at(end);
+    match rest {
+        [b' ', rest @ ..] => Some((front, rest)),
+        _ => None,
+    }
+}
+
+// The place of the first space or quote.
+fn edge_at(bytes: &[u8]) -> Option<usize>
+    ensures { IfSome result (λ end. (end ≤ length bytes.now) × (list_any is_edge (take end bytes.now) ≡ false)) }
+{
+    first_edge(bytes)
+}
+
+// The same place, by std's search.
+fn first_edge(bytes: &[u8]) -> Option<usize>
+    ensures { result ≡ position is_edge bytes.now }
+{
+    bytes.iter().position(|byte| matches!(*byte, b' ' | b'"'))
+}
+
+// The parts, byte by byte.
 fn split_at_space(bytes: &[u8]) -> Option<(&[u8], &[u8])>
     ensures { option_map (λ parts. (parts.0.now, parts.1.now)) result ≡ split_term Outside bytes.now }
 {

@@ -1,9 +1,10 @@
 // A triple by the line that it has in a record.
 
-ghost use Rattle.std.specs.Prelude.{◌≡◌, ◌↔◌, ◌≤◌, ◌++◌, ◌∷◌, [], IfOk, IfSome, IsTrue, MatchOption, Some};
+ghost use Rattle.std.specs.Prelude.{◌≡◌, ◌↔◌, ◌≤◌, ◌++◌, ◌∷◌, [], IfOk, IfSome, IsTrue, MatchOption, Some, length};
 ghost use Rattle.rdf_term.specs.{declared.term.Term.Term as TheTerm, declared.triple.Triple.Triple as TheTriple, Text.term_text};
 ghost use Rattle.replica.specs.TripleLine.{AreTermTexts, IsTermText, IsTripleLine};
 
+use crate::plain_term::plain_term;
 use crate::term_end::split_term;
 use rdf_term::{OutOfMemory, Term, Triple, write_term};
 use std::alloc::Global;
@@ -100,6 +101,17 @@ fn canonical_term(alloc: Global, bytes: &[u8]) -> Result<Option<Term>, OutOfMemo
     if bytes.len() > LONGEST_TERM {
         return Ok(None);
     }
+    match plain_term(alloc, bytes)? {
+        Some(term) => Ok(Some(term)),
+        None => any_term(alloc, bytes),
+    }
+}
+
+// The same, by reading the term and writing its text.
+fn any_term(alloc: Global, bytes: &[u8]) -> Result<Option<Term>, OutOfMemory>
+    requires { length bytes.now ≤ 33_554_432 }
+    ensures { IfOk result (λ found. (term : TheTerm) → (found ≡ Some term) ↔ IsTermText bytes.now term) }
+{
     let Ok(text) = str::from_utf8(bytes) else {
         return Ok(None);
     };
@@ -123,7 +135,7 @@ fn canonical_term(alloc: Global, bytes: &[u8]) -> Result<Option<Term>, OutOfMemo
 fn is_text_of(alloc: Global, bytes: &[u8], term: &Term) -> Result<bool, OutOfMemory>
     ensures { IfOk result (λ same. IsTrue same ↔ (bytes.now ≡ term_text term.now)) }
 {
-    let mut written = Vec::new(alloc);
+    let mut written = Vec::with_capacity(alloc, bytes.len())?;
     write_term(term, &mut written)?;
     Ok(written.as_slice() == bytes)
 }

@@ -1,7 +1,7 @@
 -- The text of a number begins with 1 to 9, and then `parse` reads the number that is written so.
 use Rattle.std.proofs.Common.{arith}
 use Rattle.digits.proofs.Decimals.{number_read}
-use Rattle.event_line.proofs.compact.number.Goals as goal
+use Rattle.event_line.proofs.pieces.number_of.Goals as goal
 
 pub returns-in-Ok-clause-text : goal.returns-in-Ok-clause-text
 returns-in-Ok-clause-text c =
