@@ -1,0 +1,3 @@
+pub mod Mapped
+pub mod Parting
+pub mod TermHomes

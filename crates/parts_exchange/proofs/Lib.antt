@@ -1,0 +1,4 @@
+pub mod Merged
+pub mod MergedLines
+pub mod OneLine
+pub mod Telling
