@@ -1,5 +1,6 @@
 -- The steps of a replay, and the records of what they change of the stored triples.
-use Rattle.std.specs.Prelude.{◌≡◌, ℕ, ◌+◌, ◌≤◌, Bool, true, false, ◌||◌, cond, nat_lt, List, [], ◌∷◌, ◌++◌, Option, Result, MatchResult, filter, flat_map, length}
+use Rattle.std.specs.Prelude.{◌≡◌, ℕ, ◌+◌, ◌≤◌, Bool, true, false, cond, List, [], ◌∷◌, ◌++◌, Option, Result, MatchResult, filter, flat_map, length}
+use Rattle.std.specs.List.{list_any}
 use Rattle.wq_io.specs.Streams.{after_known}
 use Rattle.sorted_sets.specs.Rising.{difference}
 use Rattle.rdf_term.specs.{declared.triple.Triple.Triple, Order.triple_cmp}
@@ -9,7 +10,7 @@ use Rattle.replay_model.specs.Acceptance.{Arrival, arrivals, version_in_force}
 use Rattle.replay_model.specs.{Play.Played, Play.Replies, Play.apply, Play.newly_due, Play.play, Records.Records}
 use Rattle.replay_model.specs.{ReplayState.ReplayState, ReplayState.due_now, Union.union}
 use Rattle.replay_model.specs.Versions.{all_by, meaning_by, with_version}
-use Rattle.triple_store.specs.declared.telling.Change.{Change}
+use Rattle.triple_store.specs.{declared.telling.Change.Change, Telling.is_changed}
 use Rattle.fetched_pages.specs.Meaning.{meaning}
 use Rattle.world.specs.WorldState.{stale_by}
 use Rattle.text_output.specs.{declared.write.Unwritten.Unwritten, Printing.IsCutShort, Printing.Output}
@@ -72,7 +73,11 @@ record_of_step number s = record { number = number; adds = difference triple_cmp
 
 -- whether what is stored differs
 abbrev pub is_change : Step → Bool
-is_change s = nat_lt 0 (length (difference triple_cmp s.after s.before)) || nat_lt 0 (length (difference triple_cmp s.before s.after))
+is_change s = is_changed s.before s.after
+
+-- whether it differs at one of these steps
+abbrev pub has_change : List Step → Bool
+has_change steps = list_any is_change steps
 
 -- the records of steps, numbered from this number on
 abbrev pub numbered_from : ℕ → List Step → List PatchRecord

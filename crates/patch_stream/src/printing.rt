@@ -12,7 +12,7 @@ use rdf_term::OutOfMemory;
 use replica::Head;
 use std::alloc::Global;
 use text_output::{Unwritten, write_all};
-use triple_store::Change;
+use triple_store::{Change, Told};
 use wq_io::Sink;
 
 /// Prints the record of a step whose change is told, if it changed what is stored: a line `# patch NUMBER +ADDS -REMOVES`, the lines of the
@@ -26,7 +26,7 @@ use wq_io::Sink;
 pub fn print_step<K: Sink>(
     alloc: Global,
     told: u64,
-    change: Option<Change>,
+    change: Told,
     out: &mut K,
 ) -> Result<u64, Unwritten>
     ensures tells { (before after : List Triple) → Tells TheChange before after change → TellsStep told (step before after) (output K.Sink out.old) (output K.Sink out.new) result }
@@ -34,8 +34,10 @@ pub fn print_step<K: Sink>(
     ensures later { K.faults out.old ≤ K.faults out.new }
     ensures most { K.most_faults out.new ≡ K.most_faults out.old }
 {
-    let Some(change) = change else {
-        return Ok(told);
+    let change = match change {
+        Told::Change(change) => change,
+        Told::Whether(_) => return Ok(told),
+        Told::Nothing => return Ok(told),
     };
     if !has_lines(&change) {
         return Ok(told);

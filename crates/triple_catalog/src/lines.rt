@@ -1,6 +1,6 @@
-// The lines of the triples that have one owner.
+// The triples that have one owner: their lines, and whether there is one.
 
-ghost use Rattle.std.specs.Prelude.{◌≡◌, true, length, IfOk};
+ghost use Rattle.std.specs.Prelude.{◌≡◌, true, length, nat_lt, IfOk};
 ghost use Rattle.std.specs.FinMap as map;
 ghost use Rattle.sorted_sets.specs.Rising.{IsRising, has, sorted};
 ghost use Rattle.rdf_term.specs.Order.{triple_cmp};
@@ -39,6 +39,27 @@ impl Catalog {
         let found = self.sole_keys(keys, others, steps)?;
         let rows = self.rows_of(region, found.as_slice())?;
         rows.lines(self.alloc)
+    }
+
+    /// Whether one of these keys has one owner, but for those that are among others. It takes no memory, and stops at the first.
+    pub fn has_sole<C: StepCounter>(&self, keys: &[Key], others: &[Key], steps: &mut C) -> bool
+        requires others { IsRising key_cmp others.now }
+        ensures some { result ≡ nat_lt 0 (length (sole self.now keys.now others.now)) }
+        ensures cost { Costs (map.len self.now.index) (map.len self.now.index) 0 (length keys.now) (C.total steps.old) (C.total steps.new) }
+    {
+        let mut next = 0;
+        for key in keys {
+            match find_from(others, *key, next) {
+                Ok(index) => next = index + 1,
+                Err(index) => {
+                    next = index;
+                    if self.index.count(*key, steps) == 1 {
+                        return true;
+                    }
+                }
+            }
+        }
+        false
     }
 
     // The keys with one owner, but for those that are among others.

@@ -4,7 +4,7 @@ use Rattle.std.specs.FinMap as map
 use Rattle.text_region.specs.Region.{Texts}
 use Rattle.triple_catalog.specs.{declared.catalog.Catalog.Catalog, Costs.Costs, Stored.IsStored, Stored.counts_in}
 use Rattle.triple_store.specs.{Telling.if_told, declared.telling.Telling.Telling}
-use Rattle.triple_store.specs.declared.telling.Telling.TheVariants.{Nothing, Change}
+use Rattle.triple_store.specs.declared.telling.Telling.TheVariants.{Nothing, Whether, Change}
 use Rattle.triple_catalog.proofs.{Unchanged.len_image, Costs.both, Costs.at_most}
 
 -- the same of the stored triples, of which there are as many as keys
@@ -25,4 +25,5 @@ told_between n m k came told most gone old before mid then after f g h few le =
 -- fewer look-ups where fewer are told
 pub told_fewer : (telling : Telling) (a b : ℕ) → a ≤ b → if_told telling a ≤ if_told telling b
 told_fewer Change a b h = h
+told_fewer Whether a b h = h
 told_fewer Nothing a b h = omega arith

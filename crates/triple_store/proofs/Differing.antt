@@ -1,5 +1,5 @@
 -- What came and what is gone are the triples of keys with one owner, while the triples of both are stored.
-use Rattle.std.proofs.Common.{◌≡◌, ℕ, ◌+◌, ◌==◌, Bool, true, false, not, ◌&&◌, List, [], nat_lt, Option, Some, None, sym, ◌∙◌, ap, subst, arith, lt-ltb, ltb-true, true≢false, refl}
+use Rattle.std.proofs.Common.{◌≡◌, ℕ, ◌+◌, ◌==◌, Bool, true, false, not, ◌&&◌, List, [], nat_lt, sym, ◌∙◌, ap, subst, arith, lt-ltb, ltb-true, true≢false, refl}
 use Rattle.std.specs.FinMap as map
 use Rattle.std.proofs.lemmas.Bool.Decides.{nat_tests}
 use Rattle.sorted_sets.specs.Rising.{has, difference, sorted}
@@ -15,9 +15,10 @@ use Rattle.slot_index.specs.Counts as keyed
 use Rattle.triple_catalog.specs.{declared.catalog.Catalog.Catalog, Counts.Counts, Counts.HaveOwners, Counts.count_of}
 use Rattle.triple_catalog.specs.{Moves.Removes, Moves.TakesIn, Moves.triples_at, Slots.triple_at}
 use Rattle.triple_catalog.specs.{Stored.IsStored, Stored.counts_in, Stored.is_key, Lines.AreLinesOf, Lines.sole}
-use Rattle.triple_store.specs.{Telling.IsChange, Telling.LinesIf, Telling.TellsIf, declared.telling.Change.Change}
+use Rattle.triple_store.specs.{Telling.IsChange, Telling.LinesIf, Telling.TellsIf, Telling.is_some_change, declared.telling.Change.Change, declared.telling.Told.Told}
 use Rattle.triple_store.specs.declared.telling.Telling.{Telling}
-use Rattle.triple_store.specs.declared.telling.Telling.TheVariants.{Nothing, Change as TheChange}
+use Rattle.triple_store.specs.declared.telling.Telling.TheVariants.{Nothing, Whether, Change as TheChange}
+use Rattle.triple_store.specs.declared.telling.Told.TheVariants.{Nothing as NothingTold, Whether as ToldWhether, Change as ToldChange}
 use Rattle.triple_store.proofs.Exchanged.{gone_then, had_triples, had_there, keys_triples, keys_there, triples_at-difference}
 use Rattle.triple_catalog.proofs.{Exchanged.same_test, Live.count_image}
 use Rattle.triple_catalog.proofs.Standing.{has-triples_at, triples_at-has, owned, stored_if, stored_key}
@@ -162,12 +163,17 @@ module _ (st : Catalog) (r : Texts) (now : Catalog) (s : Texts) (had keys : List
   pub is_change : (change : Change) → AreLinesOf change.came (sorted triple_cmp (triples_at now s (sole now these had))) → AreLinesOf change.gone (sorted triple_cmp (triples_at now s (sole now had these))) → IsChange (counts_in st r) (counts_in new u) change
   is_change change came gone = record { came = subst (AreLinesOf change.came) came_list came; gone = subst (AreLinesOf change.gone) gone_list gone }
 
-  pub tells_if : (telling : Telling) (change : Option Change) → LinesIf telling (sorted triple_cmp (triples_at now s (sole now these had))) (sorted triple_cmp (triples_at now s (sole now had these))) change → TellsIf telling (counts_in st r) (counts_in new u) change
-  tells_if TheChange (Some change) lines = is_change change lines.0 lines.1
-  tells_if TheChange None lines = lines
-  tells_if Nothing (Some change) lines = lines
-  tells_if Nothing None lines = lines
+  pub tells_if : (telling : Telling) (told : Told) → LinesIf telling (sorted triple_cmp (triples_at now s (sole now these had))) (sorted triple_cmp (triples_at now s (sole now had these))) told → TellsIf telling (counts_in st r) (counts_in new u) told
+  tells_if TheChange (ToldChange change) lines = is_change change lines.0 lines.1
+  tells_if TheChange (ToldWhether changed) lines = lines
+  tells_if TheChange NothingTold lines = lines
+  tells_if Whether (ToldChange change) lines = lines
+  tells_if Whether (ToldWhether changed) lines = lines ∙ (λ i. is_some_change (came_list i) (gone_list i))
+  tells_if Whether NothingTold lines = lines
+  tells_if Nothing (ToldChange change) lines = lines
+  tells_if Nothing (ToldWhether changed) lines = lines
+  tells_if Nothing NothingTold lines = lines
 
 -- where an owner's triples all go, none came
-pub is_released : (st : Catalog) (r : Texts) (old : List Key) (new : Catalog) (u : Texts) → IsStored st r → ((key : Key) → has key_cmp key old ≡ true → is_key st key ≡ true) → Removes st r new u (difference key_cmp old []) → (telling : Telling) (change : Option Change) → LinesIf telling (sorted triple_cmp (triples_at st r (sole st [] old))) (sorted triple_cmp (triples_at st r (sole st old []))) change → TellsIf telling (counts_in st r) (counts_in new u) change
+pub is_released : (st : Catalog) (r : Texts) (old : List Key) (new : Catalog) (u : Texts) → IsStored st r → ((key : Key) → has key_cmp key old ≡ true → is_key st key ≡ true) → Removes st r new u (difference key_cmp old []) → (telling : Telling) (told : Told) → LinesIf telling (sorted triple_cmp (triples_at st r (sole st [] old))) (sorted triple_cmp (triples_at st r (sole st old []))) told → TellsIf telling (counts_in st r) (counts_in new u) told
 is_released st r old new u stored all less = tells_if st r st r old [] [] stored all (none_taken st r old stored) new u less

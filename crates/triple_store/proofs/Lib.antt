@@ -14,6 +14,7 @@ pub mod Parts
 pub mod Patched
 pub mod Rooming
 pub mod Standing
+mod Somes
 pub mod Stocked
 pub mod Timed
 pub mod Unchanged

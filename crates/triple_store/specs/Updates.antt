@@ -1,5 +1,5 @@
 -- What the calls of a store that change the owners of triples ask for, and what they do.
-use Rattle.std.specs.Prelude.{◌≡◌, ℕ, ◌<◌, ◌≤◌, true, List, [], length, Option, Result, Err, IfOk, IsOk, OnErr, OnOk}
+use Rattle.std.specs.Prelude.{◌≡◌, ℕ, ◌<◌, ◌≤◌, true, List, [], length, Result, Err, IfOk, IsOk, OnErr, OnOk}
 use Rattle.std.specs.List.{AllByRecursion}
 use Rattle.sorted_sets.specs.Rising.{IsRising, has}
 use Rattle.base.specs.declared.memory.OutOfMemory.{OutOfMemory}
@@ -7,8 +7,8 @@ use Rattle.rdf_term.specs.{declared.triple.Triple.Triple, Fit.HasFitAndShortTerm
 use Rattle.text_region.specs.declared.piece.Piece.{Piece}
 use Rattle.term_pool.specs.{declared.fault.PoolFault.PoolFault, declared.fault.PoolFault.TheVariants.Full}
 use Rattle.slot_keys.specs.{declared.key.Key.Key, Keys.key_cmp}
-use Rattle.triple_store.specs.{declared.telling.Change.Change, declared.telling.Telling.Telling}
-use Rattle.triple_store.specs.{declared.telling.Telling.TheVariants.Nothing, declared.updates.Exchange.Exchange}
+use Rattle.triple_store.specs.{declared.telling.Telling.Telling, declared.telling.Told.Told}
+use Rattle.triple_store.specs.{declared.telling.Telling.TheVariants.Change, declared.updates.Exchange.Exchange}
 use Rattle.triple_store.specs.StoreState.{AreKeysOf, IsSound, KeepsKeys, StoreState, beside, counts_in, is_key, limit_of}
 use Rattle.triple_store.specs.Telling.{TellsIf}
 use Rattle.triple_catalog.specs.{Counts.Exchanges, Counts.count_of, Room.room_for}
@@ -52,7 +52,7 @@ AreLeft store keys counts left gone = lent.AddTimes store.catalog store.texts ke
 abbrev pub ComesTo : StoreState → List Key → List ℕ → List Triple → List Triple → List Triple → Type 0
 ComesTo store keys left come before after = lent.ComesTo store.catalog store.texts keys left come before after
 
--- an owner had some triples and has others from now on, of which there are the keys and the times; the change is told where it is to be told
+-- an owner had some triples and has others from now on, of which there are the keys and the times; what is asked for is told
 pub record HasExchanged (telling : Telling) (old new : StoreState) (before after : List Triple) (done : Exchange) : Type 0 where
   pub counts : Exchanges (counts_in old) (counts_in new) before after
   pub told : TellsIf telling (counts_in old) (counts_in new) done.change
@@ -61,19 +61,19 @@ pub record HasExchanged (telling : Telling) (old new : StoreState) (before after
   pub within : room_for (counts_in old) after ≤ limit_of old
 
 -- what is left of an owner's triples, and others that come, are in the place of those that it had, or a fault changed no count. `Full` is
--- said where there is no room for what the owner would have. Only what comes or stays takes memory, and what is told
+-- said where there is no room for what the owner would have. Only what comes or stays takes memory, and to tell the change
 pub record IsExchange (telling : Telling) (old new : StoreState) (keys : List Key) (left : List ℕ) (come : List Triple) (result : Result Exchange PoolFault) : Type 0 where
   pub done : IfOk result (λ done. (before after : List Triple) → ComesTo old keys left come before after → HasExchanged telling old new before after done)
   pub err : OnErr result (counts_in new ≡ counts_in old)
   pub full : result ≡ Err Full → (before after : List Triple) → ComesTo old keys left come before after → limit_of old < room_for (counts_in old) after
-  pub free : telling ≡ Nothing → left ≡ [] → come ≡ [] → IsOk result
+  pub free : (telling ≡ Change → ⊥) → left ≡ [] → come ≡ [] → IsOk result
 
--- a release that tells the change where it is to be told, or nothing changed, since to tell it takes memory
-pub record IsRelease (telling : Telling) (old new : StoreState) (gone : List Key) (result : Result (Option Change) OutOfMemory) : Type 0 where
+-- a release that tells what is asked for, or nothing changed, since to tell the change takes memory
+pub record IsRelease (telling : Telling) (old new : StoreState) (gone : List Key) (result : Result Told OutOfMemory) : Type 0 where
   pub ok : OnOk result ((triples : List Triple) → AreKeysOf old gone triples → Exchanges (counts_in old) (counts_in new) triples [])
-  pub told : IfOk result (λ change. TellsIf telling (counts_in old) (counts_in new) change)
+  pub told : IfOk result (λ told. TellsIf telling (counts_in old) (counts_in new) told)
   pub err : OnErr result (new ≡ old)
-  pub free : telling ≡ Nothing → IsOk result
+  pub free : (telling ≡ Change → ⊥) → IsOk result
 
 -- the triples that come have one owner more and those that go one less, or a fault changed no count
 pub record IsPatched (old new : StoreState) (gone came : List Triple) (result : Result (Unit {0}) PoolFault) : Type 0 where

@@ -15,7 +15,7 @@ mod updates;
 pub use comparison_steps::{StepCounter, Uncounted};
 pub use slot_keys::{KeySlices, Keys, Left};
 pub use store::Store;
-pub use telling::{Change, Telling};
+pub use telling::{Change, Telling, Told};
 /// Why a store takes no triples: the limit on distinct terms is reached, or memory was refused.
 pub use term_pool::PoolFault as StoreFault;
 pub use triple_catalog::{Rows, TripleLines};

@@ -11,7 +11,7 @@ ghost use Rattle.triple_store.specs.Updates.{AreLeft, AreStored, AreTimesOf, Com
 
 use crate::StoreFault;
 use crate::store::Store;
-use crate::telling::{Change, Sides, Telling, change_if};
+use crate::telling::{Sides, Telling, Told, change_if};
 use crate::times::less_times;
 use comparison_steps::StepCounter;
 use rdf_term::{OutOfMemory, Triple};
@@ -32,18 +32,18 @@ pub struct Exchange {
     pub keys: Keys,
     /// How many times the triple of each key comes, in the order of the keys; empty where this isn't known.
     pub times: Vec<u16>,
-    /// What the exchange changed of the stored triples, where it was to tell that.
-    pub change: Option<Change>,
+    /// What the exchange told of its change of the stored triples.
+    pub change: Told,
 }
 
 impl Store {
     /// Puts the triples of one owner in the place of those that it had. Beside the keys of these stands what is left of the times of each,
     /// or nothing where the new triples are all that the owner has then. What is left needs no texts, no look-up and no comparison; a new
     /// triple that the owner had costs only comparisons if it comes in the order of the walk, and look-ups otherwise. If asked, the exchange
-    /// tells which triples it added to the stored ones and which it removed: that takes a look-up at most for each old and each new triple,
-    /// and memory for the lines of those told. After a fault every triple has the count that it had. The times are empty where one is above
+    /// tells whether it changed which triples are stored, or which it added to these and which it removed: that takes a look-up at most for
+    /// each old and each new triple, and for their lines memory. After a fault every triple has the count that it had. The times are empty where one is above
     /// 65,535 or memory for them is refused. It takes at most 8 (d + 8) steps for each triple that the owner has from now on and 3 (d + 8)
-    /// for each that it had, and 3 (d + 8) more for each where the change is told; d is the number of binary digits of the number of
+    /// for each that it had, and 3 (d + 8) more for each where the change is told, or whether there was one; d is the number of binary digits of the number of
     /// stored triples and of those that it has from now on together.
     pub fn exchange<C: StepCounter>(
         &mut self,
@@ -93,7 +93,7 @@ impl Store {
         Ok(timed(alloc, keys, counts, change, met))
     }
 
-    // The same where nothing is left and nothing comes. Only telling takes memory.
+    // The same where nothing is left and nothing comes. Only the lines of a change take memory.
     fn exchange_for_none<C: StepCounter>(
         &mut self,
         old: KeySlices<'_>,
@@ -139,15 +139,15 @@ impl Store {
         Ok(less_times(&self.catalog, &self.region, keys, counts, gone))
     }
 
-    /// Takes one owner away from the triples of these keys, and where it is to tell the change, tells which triples it made stored no longer.
-    /// Only telling takes memory. After `OutOfMemory` the store is as it was. It takes at most 3 (d + 8) steps for each key, and as many more
-    /// where the change is told, where d is the number of binary digits of the number of stored triples.
+    /// Takes one owner away from the triples of these keys. If asked, it tells whether it made triples stored no longer, or which: only to tell
+    /// which takes memory. After `OutOfMemory` the store is as it was. It takes at most 3 (d + 8) steps for each key, and as many more where
+    /// something is told, where d is the number of binary digits of the number of stored triples.
     pub fn release<C: StepCounter>(
         &mut self,
         old: KeySlices<'_>,
         telling: Telling,
         steps: &mut C,
-    ) -> Result<Option<Change>, OutOfMemory>
+    ) -> Result<Told, OutOfMemory>
         requires stored { AreStored self.old old.rising.now }
         ensures released { IsRelease telling self.old self.new old.entry.rising.now result }
         ensures rest { KeepsRest self.old self.new }
@@ -203,7 +203,7 @@ fn is_nothing(left: Left<'_>, new: &TripleTexts) -> bool
 }
 
 // What an exchange gave, with the times of its keys: what is left of each count, and once more for each time that its key was met.
-fn timed(alloc: Global, keys: Keys, counts: Vec<u16>, change: Option<Change>, met: Met) -> Exchange
+fn timed(alloc: Global, keys: Keys, counts: Vec<u16>, change: Told, met: Met) -> Exchange
     requires rising { IsRising key_cmp keys.rising.items }
     requires as_many { length counts.items ≡ length keys.rising.items }
     ensures keys { result.keys ≡ keys }

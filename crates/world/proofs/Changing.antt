@@ -1,24 +1,30 @@
 -- What a step tells is the change of the union.
-use Rattle.std.proofs.Common.{◌≡◌, ◌↔◌, Bool, true, false, not, ◌&&◌, List, [], ◌∷◌, length, Option, Some, None, refl, sym, ◌∙◌, ap, subst, arith}
+use Rattle.std.proofs.Common.{◌≡◌, ◌↔◌, Bool, true, false, not, ◌&&◌, List, [], ◌∷◌, length, refl, sym, ◌∙◌, ap, subst, arith}
 use Rattle.std.specs.FinMap as map
 use Rattle.sorted_sets.specs.Rising.{IsRising, difference, has}
 use Rattle.sorted_sets.proofs.{Bools.clash, Filtering.has-difference, Rising.has_itself, Rising.same_rising}
 use Rattle.rdf_term.specs.{declared.triple.Triple.Triple, Order.triple_cmp, Order.triple_cmp-total}
 use Rattle.rdf_term.proofs.Texts.{triple_cmp-IsAntisymmetric}
-use Rattle.triple_store.specs.{declared.telling.Change.Change, declared.telling.Telling.Telling}
-use Rattle.triple_store.specs.declared.telling.Telling.TheVariants.{Nothing, Change as TheChange}
-use Rattle.triple_store.specs.{Counts.Counts, StoreState.StoreState, StoreState.counts_in, Telling.AreLinesOf, Telling.TellsIf}
+use Rattle.triple_store.specs.{declared.telling.Change.Change, declared.telling.Telling.Telling, declared.telling.Told.Told}
+use Rattle.triple_store.specs.declared.telling.Telling.TheVariants.{Nothing, Whether, Change as TheChange}
+use Rattle.triple_store.specs.declared.telling.Told.TheVariants.{Nothing as NothingTold, Whether as ToldWhether, Change as ToldChange}
+use Rattle.triple_store.specs.{Counts.Counts, StoreState.StoreState, StoreState.counts_in, Telling.AreLinesOf, Telling.TellsIf, Telling.is_changed}
 use Rattle.replay_model.specs.{Union.union, Versions.meaning_by}
 use Rattle.world.specs.{Changing.IsChangeOf, Changing.Tells, Holders.ByVersion, InStep.AreInStep, Keeping.KeptRecords, Keeping.seen}
 use Rattle.fetched_pages.specs.Meaning.{meaning}
 use Rattle.world.proofs.Rooming.{stored_union}
 
 -- the stored triples are those that are counted
-tells : (telling : Telling) (old new : Counts) (before after : List Triple) → map.keys old ≡ before → map.keys new ≡ after → (change : Option Change) → TellsIf telling old new change → Tells telling before after change
-tells Nothing old new before after was is None told = λ asked. cc
-tells Nothing old new before after was is (Some change) told = absurd told
-tells TheChange old new before after was is None told = absurd told
-tells TheChange old new before after was is (Some change) told = (
+tells : (telling : Telling) (old new : Counts) (before after : List Triple) → map.keys old ≡ before → map.keys new ≡ after → (told : Told) → TellsIf telling old new told → Tells telling before after told
+tells Nothing old new before after was is NothingTold told = λ asked. absurd (asked refl)
+tells Nothing old new before after was is (ToldWhether changed) told = absurd told
+tells Nothing old new before after was is (ToldChange change) told = absurd told
+tells Whether old new before after was is NothingTold told = absurd told
+tells Whether old new before after was is (ToldWhether changed) told = (refl, told ∙ (λ i. is_changed (was i) (is i)))
+tells Whether old new before after was is (ToldChange change) told = absurd told
+tells TheChange old new before after was is NothingTold told = absurd told
+tells TheChange old new before after was is (ToldWhether changed) told = absurd told
+tells TheChange old new before after was is (ToldChange change) told = (
   refl,
   record {
     came = subst (AreLinesOf change.came) (ap (λ ts. difference triple_cmp ts (map.keys old)) is ∙ ap (difference triple_cmp after) was) told.came;
@@ -28,12 +34,12 @@ tells TheChange old new before after was is (Some change) told = (
 
 -- what the store tells is the change of the union, where it is in step with the records before and after
 pub step_tells : (s s2 : StoreState) (ids ids2 : ByVersion) (kept kept2 : KeptRecords) → AreInStep s ids kept → AreInStep s2 ids2 kept2
-    → (old new : Counts) → old ≡ counts_in s → new ≡ counts_in s2 → (telling : Telling) (change : Option Change) → TellsIf telling old new change
-    → Tells telling (union triple_cmp (meaning_by meaning ids.by_two) (seen s kept)) (union triple_cmp (meaning_by meaning ids2.by_two) (seen s2 kept2)) change
-step_tells s s2 ids ids2 kept kept2 h k old new was is telling change told = tells telling old new _ _
+    → (old new : Counts) → old ≡ counts_in s → new ≡ counts_in s2 → (telling : Telling) (told : Told) → TellsIf telling old new told
+    → Tells telling (union triple_cmp (meaning_by meaning ids.by_two) (seen s kept)) (union triple_cmp (meaning_by meaning ids2.by_two) (seen s2 kept2)) told
+step_tells s s2 ids ids2 kept kept2 h k old new was is telling told tells_it = tells telling old new _ _
     (ap (λ (counts : Counts). map.keys counts) was ∙ stored_union (meaning_by meaning ids.by_two) s kept h.kept)
     (ap (λ (counts : Counts). map.keys counts) is ∙ stored_union (meaning_by meaning ids2.by_two) s2 kept2 k.kept)
-    change told
+    told tells_it
 
 -- where the store stays as it was, so does the union
 pub stored_still : (s : StoreState) (ids ids2 : ByVersion) (kept kept2 : KeptRecords) → AreInStep s ids kept → AreInStep s ids2 kept2

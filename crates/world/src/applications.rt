@@ -64,8 +64,8 @@ impl World {
         }
     }
 
-    /// Does what `apply_next` does. If asked, it also gives the lines of the triples that it added to the stored ones and of those that it
-    /// removed, which takes memory. If there are routes, it gives back the page that it stored: its triples by their texts, and its graph.
+    /// Does what `apply_next` does. If asked, it also tells whether it changed which triples are stored; or it gives the lines of the triples
+    /// that it added to these and of those that it removed, which takes memory. If there are routes, it gives back the page that it stored: its triples by their texts, and its graph.
     pub fn apply_next_with<R: Revisions>(
         &mut self,
         revisions: &mut R,
@@ -104,22 +104,28 @@ impl World {
         let Some(event) = self.buffer.least_due() else {
             return Err(WorldFault::Nothing);
         };
-        let reply = self.reply(revisions, folder, &event, routes)?;
+        let Ok(reply) = self.reply(revisions, folder, &event, routes) else {
+            return Err(WorldFault::OutOfMemory);
+        };
         let how = Handling {
             version: self.mapping,
             telling,
         };
-        let effect = self.holdings.apply(&mut self.side, event, reply, how)?;
-        self.holdings.facts();
-        self.buffer.drop_least();
-        Ok(AppliedStep {
-            applied: AppliedEvent {
-                event,
-                outcome: effect.outcome,
-            },
-            change: effect.change,
-            routed: effect.routed,
-        })
+        match self.holdings.apply(&mut self.side, event, reply, how) {
+            Ok(effect) => {
+                self.holdings.facts();
+                self.buffer.drop_least();
+                Ok(AppliedStep {
+                    applied: AppliedEvent {
+                        event,
+                        outcome: effect.outcome,
+                    },
+                    change: effect.change,
+                    routed: effect.routed,
+                })
+            }
+            Err(fault) => Err(WorldFault::from(fault)),
+        }
     }
 
     // The reply to the fetch that an event wants, if it wants one.
@@ -158,13 +164,15 @@ impl World {
             version: self.mapping,
         };
         let known = self.holdings.known_page(event.entity, self.mapping);
-        let reply = fetch(
+        match fetch(
             self.alloc,
             revisions,
             folder,
             wanted,
             Beside { routes, known },
-        )?;
-        Ok(Some(reply))
+        ) {
+            Ok(reply) => Ok(Some(reply)),
+            Err(refused) => Err(refused),
+        }
     }
 }

@@ -7,11 +7,11 @@ use entity_model::{EntityId, Event, MappingVersion};
 use rdf_term::OutOfMemory;
 use side_output::Cause;
 use thiserror::Error;
-use triple_store::{Change, StoreFault, Telling};
+use triple_store::{StoreFault, Telling, Told};
 use triple_texts::TripleTexts;
 
 /// What the application of an event did to what its entity holds.
-#[derive(Clone, Copy, PartialEq, Eq)]
+#[derive(Clone, Copy)]
 pub enum Outcome {
     /// Nothing.
     Same,
@@ -23,15 +23,15 @@ pub enum Outcome {
     Sided(Cause),
 }
 
-/// How what an entity holds is changed: by which version its page is mapped, and whether the change of the stored triples is told.
-#[derive(Clone, Copy, PartialEq, Eq)]
+/// How what an entity holds is changed: by which version its page is mapped, and what is told of the change of the stored triples.
+#[derive(Clone, Copy)]
 pub struct Handling {
     pub version: MappingVersion,
     pub telling: Telling,
 }
 
 /// An event that was applied.
-#[derive(Clone, Copy, PartialEq, Eq)]
+#[derive(Clone, Copy)]
 pub struct AppliedEvent {
     pub event: Event,
     pub outcome: Outcome,
@@ -45,42 +45,42 @@ pub struct RoutedPage {
     pub triples: TripleTexts,
 }
 
-/// What the application of an event did to what its entity holds; what it changed of the stored triples, where that is told; and the page
-/// that it stored, where it is routed.
+/// What the application of an event did to what its entity holds; what is told of its change of the stored triples; and the page that it
+/// stored, where it is routed.
 #[derive(Drop)]
 pub struct HeldChange {
     pub outcome: Outcome,
-    pub change: Option<Change>,
+    pub change: Told,
     pub routed: Option<RoutedPage>,
 }
 
-/// An event that was applied; the change of the stored triples, if it was asked for and the store changed; and the page that was stored, if
-/// there are routes.
+/// An event that was applied; what is told of its change of the stored triples: nothing too where no page came or went; and the page that
+/// was stored, if there are routes.
 #[derive(Drop)]
 pub struct AppliedStep {
     pub applied: AppliedEvent,
-    pub change: Option<Change>,
+    pub change: Told,
     pub routed: Option<RoutedPage>,
 }
 
-/// How remapping a page changed the stored triples, if it is told, and the triples of the page then, by their texts.
+/// What is told of how remapping a page changed the stored triples, and the triples of the page then, by their texts.
 #[derive(Drop)]
 pub struct RemappedPage {
-    pub change: Option<Change>,
+    pub change: Told,
     pub triples: TripleTexts,
 }
 
-/// An entity whose held page was remapped; the change of the stored triples, if it is told; and the triples of the page then, by their
+/// An entity whose held page was remapped; what is told of its change of the stored triples; and the triples of the page then, by their
 /// texts, of which one may stand there more than once.
 #[derive(Drop)]
 pub struct RemappedStep {
     pub entity: EntityId,
-    pub change: Option<Change>,
+    pub change: Told,
     pub triples: TripleTexts,
 }
 
 /// Why no event was applied, or no page remapped.
-#[derive(Clone, Copy, Debug, PartialEq, Eq, Error)]
+#[derive(Clone, Copy, Debug, Error)]
 pub enum WorldFault {
     /// No event is due.
     #[error("no event is due")]

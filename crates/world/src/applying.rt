@@ -14,11 +14,11 @@ use crate::holdings::Holdings;
 use entity_model::Event;
 use fetched_pages::{FetchedPage, Page, Reply, Wanted};
 use side_output::{Entry, Side};
-use triple_store::StoreFault;
+use triple_store::{StoreFault, Told};
 
 impl Holdings {
-    /// Applies an event. If it wants a fetch, the reply is given, and its page is mapped by the version. Tells the change of the stored
-    /// triples if asked to. After a fault nothing has changed. It takes memory only for a page, for an entity's first record, for an entry of the
+    /// Applies an event. If it wants a fetch, the reply is given, and its page is mapped by the version. Tells what it is asked
+    /// of the change of the stored triples. After a fault nothing has changed. It takes memory only for a page, for an entity's first record, for an entry of the
     /// side output, and to tell what is dropped.
     pub fn apply(
         &mut self,
@@ -75,7 +75,7 @@ impl Holdings {
                         let _ = side.push(Entry::Revision(event, after.state.rev, cause));
                         Ok(HeldChange {
                             outcome: Outcome::Sided(cause),
-                            change: None,
+                            change: Told::Nothing,
                             routed: None,
                         })
                     }

@@ -51,8 +51,11 @@ impl Holdings {
     pub fn new(alloc: Global, keys: RandomState, limit: u32) -> Result<Holdings, OutOfMemory>
         ensures { IfOk result (λ holdings. holdings ≡ record { records = map.empty; limit = limit; by_two = [] }) }
     {
-        let store = Store::new(alloc, keys, limit)?;
         let table = Table::new(alloc, keys)?;
+        let Ok(store) = Store::new(alloc, keys, limit) else {
+            drop(table);
+            return Err(OutOfMemory);
+        };
         Ok(Holdings {
             alloc,
             store,

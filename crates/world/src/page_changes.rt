@@ -24,11 +24,11 @@ use entity_model::{EntityId, MappingVersion};
 use entity_state::{Held, Mode, Record, Standing, Table};
 use fetched_pages::{FetchedPage, Wanted};
 use rdf_term::OutOfMemory;
-use triple_store::{Change, Store, StoreFault, Telling, Uncounted};
+use triple_store::{Store, StoreFault, Telling, Told, Uncounted};
 
 impl Holdings {
-    /// Sets the record of an entity, which holds the page of the wanted revision from now on, and tells the change of the
-    /// stored triples if asked to. After a fault nothing has changed. The fault is `Full` if its triples, with those of all that is held,
+    /// Sets the record of an entity, which holds the page of the wanted revision from now on, and tells what it is asked of
+    /// the change of the stored triples. After a fault nothing has changed. The fault is `Full` if its triples, with those of all that is held,
     /// have more distinct terms than the limit. If the page says what it changes of the held one, the store exchanges that alone.
     pub fn hold(
         &mut self,
@@ -36,7 +36,7 @@ impl Holdings {
         after: Standing,
         page: &FetchedPage,
         telling: Telling,
-    ) -> Result<Option<Change>, StoreFault>
+    ) -> Result<Told, StoreFault>
         requires { IsFetched self.old.records self.old.by_two wanted.version wanted.id wanted.rev page.now }
         ensures ok { OnOk result (self.new.records ≡ map.insert self.old.records wanted.id (record {
           state = after.state;
@@ -102,7 +102,7 @@ impl Holdings {
         }
     }
 
-    /// Sets the record of an entity if nothing was fetched, and tells the change of the stored triples if asked to. After `OutOfMemory`
+    /// Sets the record of an entity if nothing was fetched, and tells what it is asked of the change of the stored triples. After `OutOfMemory`
     /// nothing has changed.
     pub fn settle(
         &mut self,
@@ -125,20 +125,24 @@ impl Holdings {
     {
         match after.state.mode {
             Mode::Deleted => {
-                let change = self.release(id, after, telling)?;
-                Ok(HeldChange {
-                    outcome: Outcome::Dropped,
-                    change,
-                    routed: None,
-                })
+                match self.release(id, after, telling) {
+                    Ok(change) => Ok(HeldChange {
+                        outcome: Outcome::Dropped,
+                        change,
+                        routed: None,
+                    }),
+                    Err(refused) => Err(refused),
+                }
             }
             Mode::Unknown | Mode::Kept => {
-                self.keep(id, after)?;
-                Ok(HeldChange {
-                    outcome: Outcome::Same,
-                    change: None,
-                    routed: None,
-                })
+                match self.keep(id, after) {
+                    Ok(()) => Ok(HeldChange {
+                        outcome: Outcome::Same,
+                        change: Told::Nothing,
+                        routed: None,
+                    }),
+                    Err(refused) => Err(refused),
+                }
             }
         }
     }
@@ -156,19 +160,21 @@ impl Holdings {
         ensures err { OnErr result (self.new ≡ self.old) }
         ensures refused { OnErr result (map.contains_key self.old.records id ≡ false) }
     {
-        make_room(&mut self.table, id)?;
+        let Ok(()) = make_room(&mut self.table, id) else {
+            return Err(OutOfMemory);
+        };
         keep_record(&mut self.table, id, after);
         Ok(())
     }
 
-    /// Sets the record of an entity, which holds nothing from now on, and tells the change of the stored triples if asked to. After
+    /// Sets the record of an entity, which holds nothing from now on, and tells what it is asked of the change of the stored triples. After
     /// `OutOfMemory` nothing has changed.
     pub fn release(
         &mut self,
         id: EntityId,
         after: Standing,
         telling: Telling,
-    ) -> Result<Option<Change>, OutOfMemory>
+    ) -> Result<Told, OutOfMemory>
         ensures records { OnOk result (self.new.records ≡ map.insert self.old.records id (record {
           state = after.state;
           held = None;
@@ -180,10 +186,13 @@ impl Holdings {
         ensures err { OnErr result (self.new ≡ self.old) }
         ensures refused { OnErr result ((map.contains_key self.old.records id ≡ false) ⊎ (telling ≡ TheChange)) }
     {
-        make_room(&mut self.table, id)?;
-        let change = self
-            .store
-            .release(keys_of(&self.table, id), telling, &mut Uncounted)?;
+        let Ok(()) = make_room(&mut self.table, id) else {
+            return Err(OutOfMemory);
+        };
+        let gone = keys_of(&self.table, id);
+        let Ok(change) = self.store.release(gone, telling, &mut Uncounted) else {
+            return Err(OutOfMemory);
+        };
         replace(&mut self.store, &mut self.table, id, after, None);
         self.holders.remove(id, MappingVersion::One);
         self.holders.remove(id, MappingVersion::Two);

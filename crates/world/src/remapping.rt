@@ -26,7 +26,7 @@ use triple_store::{Exchange, Keys, Left, Store, StoreFault, Telling, Uncounted};
 use triple_texts::TripleTexts;
 
 impl Holdings {
-    /// Maps what an entity holds by a version, gives back its triples, and tells the change of the stored triples if asked to. After a
+    /// Maps what an entity holds by a version, gives back its triples, and tells what it is asked of the change of the stored triples. After a
     /// fault nothing has changed. The fault is `Full` if the new triples, with those of all that is held, have more distinct terms than the
     /// limit.
     pub fn remap(

@@ -24,7 +24,7 @@ use thiserror::Error;
 use triple_store::{StoreFault, Telling};
 
 /// Why a record isn't put back.
-#[derive(Clone, Copy, Debug, PartialEq, Eq, Error)]
+#[derive(Clone, Copy, Debug, Error)]
 pub enum RestoreFault {
     /// No replay leaves such a record: its page is no document of its entity, a page is held although the state isn't kept, or the revision
     /// that the state wants isn't held and no entry of the side output names it.

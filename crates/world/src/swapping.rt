@@ -10,9 +10,7 @@ use crate::kept::PageTimes;
 use fetched_pages::{ChangedPage, FetchedPage, Wanted, texts_in};
 use page_rdf::Counts;
 use std::alloc::Global;
-use triple_store::{
-    Change, Exchange, KeySlices, Keys, Left, Store, StoreFault, Telling, Uncounted,
-};
+use triple_store::{Exchange, KeySlices, Keys, Left, Store, StoreFault, Telling, Told, Uncounted};
 
 /// What an entity has: the keys of its triples, and how many times the triple of each comes, or nothing where that isn't known.
 #[derive(Clone, Copy)]
@@ -21,7 +19,8 @@ pub struct Had<'a> {
     pub times: &'a [u16],
 }
 
-/// The revision whose page comes, the version of the mapping by which it is mapped, and whether the change of the stored triples is told.
+/// The revision whose page comes, the version of the mapping by which it is mapped, and what is told of the change of the
+/// stored triples.
 #[derive(Clone, Copy)]
 pub struct SwapSetting {
     pub alloc: Global,
@@ -29,13 +28,13 @@ pub struct SwapSetting {
     pub telling: Telling,
 }
 
-/// The keys of the triples of a page, what is known of how often they come, and what its coming changed of the stored triples, where that
-/// is told.
+/// The keys of the triples of a page, what is known of how often they come, and what is told of how its coming changed the stored
+/// triples.
 #[derive(Drop)]
 pub struct PageExchange {
     pub keys: Keys,
     pub times: Option<PageTimes>,
-    pub change: Option<Change>,
+    pub change: Told,
 }
 
 /// Puts the triples of a page in the place of those that its entity had. Where it is known what the page changes, it works on that alone.
@@ -71,7 +70,14 @@ pub fn exchange_page(
                         keys: had.keys,
                         counts: counts.as_slice(),
                     };
-                    match store.exchange(left, &page.texts.come, setting.telling, &mut Uncounted) {
+                    let exchanged = store.exchange(
+                        left,
+                        &page.texts.come,
+                        setting.telling,
+                        &mut Uncounted,
+                    );
+                    drop(counts);
+                    match exchanged {
                         Ok(done) => Ok(with_counts(done, Some(page.texts.counts))),
                         Err(fault) => Err(fault),
                     }
@@ -122,8 +128,11 @@ fn exchange_anew(
                 keys: old,
                 counts: &[],
             };
-            match store.exchange(left, &mapped.triples, setting.telling, &mut Uncounted) {
-                Ok(done) => Ok(with_counts(done, mapped.counts)),
+            let exchanged = store.exchange(left, &mapped.triples, setting.telling, &mut Uncounted);
+            let counts = mapped.counts;
+            drop(mapped);
+            match exchanged {
+                Ok(done) => Ok(with_counts(done, counts)),
                 Err(fault) => Err(fault),
             }
         }

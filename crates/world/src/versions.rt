@@ -76,8 +76,8 @@ impl World {
         }
     }
 
-    /// Does what `remap_next` does, and gives back the triples of the page by their texts. If asked, it also gives the triples that it
-    /// added to the stored ones and those that it removed.
+    /// Does what `remap_next` does, and gives back the triples of the page by their texts. If asked, it also tells whether it changed which
+    /// triples are stored, or gives the triples that it added to these and those that it removed.
     pub fn remap_next_with(&mut self, telling: Telling) -> Result<Option<RemappedStep>, WorldFault>
         ensures ok { OnOk result (self.new ≡ remapped self.old) }
         ensures entity { IfOk result (λ done. entity_of done ≡ next_stale self.old) }
@@ -97,7 +97,10 @@ impl World {
         let Some(entity) = self.holdings.next_stale(self.mapping) else {
             return Ok(None);
         };
-        let remapped = self.holdings.remap(entity, self.mapping, telling)?;
+        let remapped = match self.holdings.remap(entity, self.mapping, telling) {
+            Ok(remapped) => remapped,
+            Err(fault) => return Err(WorldFault::from(fault)),
+        };
         self.holdings.facts();
         Ok(Some(RemappedStep {
             entity,

@@ -7,18 +7,16 @@ ghost use Rattle.sorted_sets.specs.Rising.{has};
 ghost use Rattle.entity_model.specs.Event.{event_cmp};
 ghost use Rattle.replay_model.specs.ReplayState.{after_end, after_event, after_mark, nothing_delivered, nothing_delivered_within, taken_entries};
 ghost use Rattle.entity_model.specs.declared.mapping.MappingVersion.TheVariants.{One};
+ghost use Rattle.rdf_term.specs.Limits.{default_max_terms};
 
 use crate::holdings::Holdings;
 use entity_model::{Event, MappingVersion};
-use rdf_term::OutOfMemory;
+use rdf_term::{DEFAULT_MAX_TERMS, OutOfMemory};
 use reorder_buffer::{Buffer, Taken};
 use side_output::{Entry, Side};
 use std::alloc::Global;
 use std::hash::RandomState;
 use std::marker::Model;
-
-// The limit of a world, unless it is set otherwise.
-const LIMIT: u32 = 20_000_000;
 
 /// The waiting events, the side output, the version of the mapping in force, and what the entities hold, with the triples that all held
 /// pages mean, each with the number of its owners. Contracts see the state of a replay, which determines the triples; the limit on terms;
@@ -56,13 +54,16 @@ impl Model for World {
 }
 
 impl World {
-    /// The world before the first delivery, without a horizon and with a limit of 20,000,000 terms. Version One of the mapping is in force.
+    /// The world before the first delivery, without a horizon and with a limit of `DEFAULT_MAX_TERMS` terms. Version One of the mapping is in force.
     /// The hashes of its terms are keyed by `keys`.
     pub fn new(alloc: Global, keys: RandomState) -> Result<World, OutOfMemory>
-        ensures { IfOk result (λ world. world ≡ record { replay = nothing_delivered; limit = 20000000; mapping = One; by_two = [] }) }
+        ensures { IfOk result (λ world. world ≡ record { replay = nothing_delivered; limit = default_max_terms; mapping = One; by_two = [] }) }
     {
         let buffer = Buffer::new(alloc)?;
-        let holdings = Holdings::new(alloc, keys, LIMIT)?;
+        let Ok(holdings) = Holdings::new(alloc, keys, DEFAULT_MAX_TERMS) else {
+            drop(buffer);
+            return Err(OutOfMemory);
+        };
         Ok(World {
             alloc,
             buffer,

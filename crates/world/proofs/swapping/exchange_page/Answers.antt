@@ -19,8 +19,8 @@ returns-in-Ok-clause-exchanged c =
       full = λ e. cc;
     })
 
-pub returns-in-Whole-clause-exchanged : goal.returns-in-Whole-clause-exchanged
-returns-in-Whole-clause-exchanged c =
+pub returns-in-Err-clause-exchanged : goal.returns-in-Err-clause-exchanged
+returns-in-Err-clause-exchanged c =
     let page = c.in-Whole.page in
     let its = rw c.in-Whole.is at c.requires.may_swap in
     rw c.in-Whole.is (record {
@@ -32,35 +32,35 @@ returns-in-Whole-clause-exchanged c =
           (whole_full c.args.store.now c.args.had.keys.rising.now page.triples c.requires.sound c.requires.stored (c.in-Err.ensures.exchanged.full (ap (λ fault. Err fault) same)));
     })
 
-pub exchange-requires-in-Ok-Some-clause-may_come : goal.exchange-requires-in-Ok-Some-clause-may_come
-exchange-requires-in-Ok-Some-clause-may_come c =
+pub exchange-exchanged-requires-clause-may_come : goal.exchange-exchanged-requires-clause-may_come
+exchange-exchanged-requires-clause-may_come c =
     let its = rw c.in-Changed.is at c.requires.may_swap in
     record { fit = its.changed.fit; countable = λ t _. c.requires.countable t }
 
-pub returns-in-Ok-exchange-clause-exchanged : goal.returns-in-Ok-exchange-clause-exchanged
-returns-in-Ok-exchange-clause-exchanged c =
+pub returns-in-Ok-exchanged-clause-exchanged : goal.returns-in-Ok-exchanged-clause-exchanged
+returns-in-Ok-exchanged-clause-exchanged c =
     let page = c.in-Changed.page in
     let its = rw c.in-Changed.is at c.requires.may_swap in
     let left = rw c.in-Ok-Some.field-0-is at c.in-Ok-Some.ensures.left in
     let some = rw c.in-Ok-Some.field-0-is at c.in-Ok-Some.ensures.some in
     rw c.in-Changed.is (record {
-      done = parts_swapped c.args.setting.telling c.args.store.now c.exchange-in-Ok-Some.new.self c.args.had.keys.rising.now c.args.had.times.now c.in-Ok-Some.counts.items c.args.setting.wanted page its left some c.in-Ok-exchange.done c.with_counts-in-Ok-exchange.result
-          (rw c.as_slice.ensures.value at c.in-Ok-exchange.ensures.exchanged.done) c.with_counts-in-Ok-exchange.ensures;
+      done = parts_swapped c.args.setting.telling c.args.store.now c.exchange-exchanged.new.self c.args.had.keys.rising.now c.args.had.times.now c.in-Ok-Some.counts.items c.args.setting.wanted page its left some c.in-Ok-exchanged.done c.with_counts-in-Ok-exchanged.result
+          (rw c.as_slice.ensures.value at c.in-Ok-exchanged.ensures.exchanged.done) c.with_counts-in-Ok-exchanged.ensures;
       err = tt;
       full = λ e. cc;
     })
 
-pub returns-in-Ok-Some-clause-exchanged : goal.returns-in-Ok-Some-clause-exchanged
-returns-in-Ok-Some-clause-exchanged c =
+pub returns-in-Err-exchanged-clause-exchanged : goal.returns-in-Err-exchanged-clause-exchanged
+returns-in-Err-exchanged-clause-exchanged c =
     let page = c.in-Changed.page in
     let its = rw c.in-Changed.is at c.requires.may_swap in
     let left = rw c.in-Ok-Some.field-0-is at c.in-Ok-Some.ensures.left in
     let some = rw c.in-Ok-Some.field-0-is at c.in-Ok-Some.ensures.some in
     rw c.in-Changed.is (record {
       done = tt;
-      err = c.in-Err-exchange.ensures.exchanged.err;
+      err = c.in-Err-exchanged.ensures.exchanged.err;
       full = λ e.
-          let same : c.in-Err-exchange.fault ≡ Full = cc in
-          parts_over c.args.setting.telling c.args.store.now c.exchange-in-Ok-Some.new.self c.args.had.keys.rising.now c.args.had.times.now c.in-Ok-Some.counts.items c.args.setting.wanted page its left some
-          (rw c.as_slice.ensures.value at (c.in-Err-exchange.ensures.exchanged.full (ap (λ fault. Err fault) same)));
+          let same : c.in-Err-exchanged.fault ≡ Full = cc in
+          parts_over c.args.setting.telling c.args.store.now c.exchange-exchanged.new.self c.args.had.keys.rising.now c.args.had.times.now c.in-Ok-Some.counts.items c.args.setting.wanted page its left some
+          (rw c.as_slice.ensures.value at (c.in-Err-exchanged.ensures.exchanged.full (ap (λ fault. Err fault) same)));
     })

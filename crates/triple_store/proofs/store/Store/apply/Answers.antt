@@ -109,7 +109,7 @@ returns-clause-patched g c =
       err = mid.err;
       full = λ e. mid.full (same_fault c.in-Err.fault e) [] adds (comes_whole old.catalog old.texts [] adds [] (no_keys old.catalog old.texts));
       within = tt;
-      free = λ none. mid.free refl refl none;
+      free = λ none. mid.free (λ asked. absurd cc) refl none;
     }
 
 pub returns-clause-cost : goal.returns-clause-cost

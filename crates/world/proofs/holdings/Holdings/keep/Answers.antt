@@ -3,19 +3,16 @@ use Rattle.std.proofs.Common.{ap, ◌∙◌}
 use Rattle.replay_model.specs.Versions.{meaning_by}
 use Rattle.world.specs.{InStep.AreInStep, Keeping.seen}
 use Rattle.fetched_pages.specs.Meaning.{meaning}
-use Rattle.world.proofs.{Changing.stored_still, PuttingIn.on_err, PuttingIn.seen_there, Replacing.stayed_seen, Stepping.stay_step}
-use Rattle.world.proofs.holdings.Holdings.keep.Goals.{After-from_residual, After-keep_record}
+use Rattle.world.proofs.{Changing.stored_still, PuttingIn.seen_there, Replacing.stayed_seen, Stepping.stay_step}
+use Rattle.world.proofs.holdings.Holdings.keep.Goals.{After-keep_record}
 use Rattle.world.proofs.holdings.Holdings.keep.Goals as goal
-
-before : (c : After-from_residual) → AreInStep c.self.inside.store c.self.inside.holders c.make_room.new.table.records
-before c = rw c.make_room.ensures.records c.self.invariant
 
 after : (c : After-keep_record) → AreInStep c.self.inside.store c.self.inside.holders c.keep_record.new.table.records
 after c = rw c.keep_record.ensures
     (stay_step c.self.inside.store c.self.inside.holders c.make_room.new.table.records c.args.id (rw c.make_room.ensures.records c.self.invariant) c.args.after.state c.args.after.reconciled)
 
 pub invariant_of-self : goal.invariant_of-self
-invariant_of-self c = before c
+invariant_of-self c = rw c.make_room.ensures.records c.self.invariant
 
 pub invariant_of-self-2 : goal.invariant_of-self-2
 invariant_of-self-2 c = after c
@@ -28,6 +25,5 @@ pub returns-clause-stored : goal.returns-clause-stored
 returns-clause-stored c = rw (← c.self.view_is)
     (stored_still c.self.inside.store c.self.inside.holders c.self.inside.holders c.self.inside.table.records c.keep_record.new.table.records c.self.invariant (after c))
 
-pub returns-in_err-make_room-clause-refused : goal.returns-in_err-make_room-clause-refused
-returns-in_err-make_room-clause-refused c = rw (← c.self.view_is)
-    (on_err c.from_residual.result (seen_there c.self.inside.store c.self.inside.table.records c.args.id ∙ c.in_err-make_room.ensures.refused))
+pub returns-in_default-clause-refused : goal.returns-in_default-clause-refused
+returns-in_default-clause-refused c = rw (← c.self.view_is) (seen_there c.self.inside.store c.self.inside.table.records c.args.id ∙ c.in_default.ensures.refused)

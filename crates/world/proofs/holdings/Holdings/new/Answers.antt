@@ -9,12 +9,12 @@ use Rattle.world.proofs.holdings.Holdings.new.Goals as goal
 
 pub invariant_of-result : goal.invariant_of-result
 invariant_of-result c = record {
-  kept = starts (meaning_by meaning c.new-3.result.by_two) c.in_ok-store.store c.in_ok-table.table.records c.in_ok-store.ensures.sound c.in_ok-store.ensures.counts c.in_ok-store.ensures.beside
+  kept = starts (meaning_by meaning c.new-3.result.by_two) c.in-Ok.store c.in_ok-table.table.records c.in-Ok.ensures.sound c.in-Ok.ensures.counts c.in-Ok.ensures.beside
       (ap (λ (t : Tabled KeptPage). t.records) c.in_ok-table.ensures);
   by = none_by c.new-3.result c.in_ok-table.table.records c.new-3.ensures (ap (λ (t : Tabled KeptPage). t.records) c.in_ok-table.ensures);
-  timed = none_timed c.in_ok-store.store c.new-3.result.by_two c.in_ok-table.table.records (ap (λ (t : Tabled KeptPage). t.records) c.in_ok-table.ensures);
+  timed = none_timed c.in-Ok.store c.new-3.result.by_two c.in_ok-table.table.records (ap (λ (t : Tabled KeptPage). t.records) c.in_ok-table.ensures);
 }
 
 pub returns : goal.returns
-returns c = started c.in_ok-store.store c.in_ok-table.table.records c.new-3.result.by_two c.args.limit
-    (ap (λ (t : Tabled KeptPage). t.records) c.in_ok-table.ensures) (ap (λ (i : ByVersion). i.by_two) c.new-3.ensures) c.in_ok-store.ensures.limit
+returns c = started c.in-Ok.store c.in_ok-table.table.records c.new-3.result.by_two c.args.limit
+    (ap (λ (t : Tabled KeptPage). t.records) c.in_ok-table.ensures) (ap (λ (i : ByVersion). i.by_two) c.new-3.ensures) c.in-Ok.ensures.limit

@@ -6,11 +6,12 @@ use Rattle.replay_model.proofs.Settled.{holds-nothing}
 use Rattle.fetched_pages.specs.Meaning.{meaning}
 use Rattle.world.proofs.{Rooming.nothing_held, Starting.no_documents}
 use Rattle.world.proofs.world.World.new.Goals as goal
+use Rattle.rdf_term.specs.Limits.{default_max_terms}
 
 pub invariant_of-result : goal.invariant_of-result
-invariant_of-result c = rw (c.in_ok-holdings.ensures, c.new-3.ensures) (
+invariant_of-result c = rw (c.in-Ok.ensures, c.new-3.ensures) (
   holds-nothing,
-  nothing_held (meaning_by meaning []) nothing_played.records 20000000 (len-empty _ _),
+  nothing_held (meaning_by meaning []) nothing_played.records default_max_terms (len-empty _ _),
   record { rising = tt; holding = λ _ there. absurd (true≢false (sym there)) },
   no_documents,
 )

@@ -20,10 +20,10 @@ returns-clause-fewer c = rw (← c.self.view_is)
     (subst (λ (records : Records). length (stale_by c.self.inside.mapping c.remap.new.self.by_two records) + 1 ≡ length (stale_by c.self.inside.mapping c.self.inside.holdings.by_two c.self.inside.holdings.records))
     (sym c.remap.ensures.records)
     (fewer c.self.inside.mapping c.self.inside.holdings.by_two c.remap.new.self.by_two c.self.inside.holdings.records (Some c.in-Some.entity) c.self.invariant.2.rising
-    (sym c.in-Some.is ∙ c.next_stale.ensures.entity) c.in_ok-remapped.ensures.by_two))
+    (sym c.in-Some.is ∙ c.next_stale.ensures.entity) c.in-Ok.ensures.by_two))
 
 pub returns-clause-change : goal.returns-clause-change
-returns-clause-change c = rw (← c.self.view_is) c.in_ok-remapped.ensures.change
+returns-clause-change c = rw (← c.self.view_is) c.in-Ok.ensures.change
 
 pub returns-clause-triples : goal.returns-clause-triples
-returns-clause-triples c = rw (← c.self.view_is) c.in_ok-remapped.ensures.triples
+returns-clause-triples c = rw (← c.self.view_is) c.in-Ok.ensures.triples
