@@ -15,7 +15,7 @@ use Rattle.replay_model.specs.Transcript.{Question, for_triples, for_bindings, a
 use Rattle.replay_parts.specs.Checkpoint.{Checkpoint, advanced, advanced_by}
 use Rattle.fetched_pages.specs.Meaning.{meaning}
 use Rattle.run_model.specs.Moment.{SourceCounts, HasCounted, RoseBy, Beginning, Environment, Stage, with_mapped, with_output, with_world, standing}
-use Rattle.run_model.specs.declared.report.Report.{Report}
+use Rattle.run_model.specs.{declared.report.Report.Report, declared.report.Reported.Reported}
 use Rattle.run_model.specs.{declared.report.Report.TheVariants.Answers, declared.report.Report.TheVariants.Changes, declared.stop.Halt.Halt}
 use Rattle.run_model.specs.{declared.stop.Halt.TheVariants.Unapplied as NotApplied, declared.stop.Stop.TheVariants.OutOfMemory}
 use Rattle.run_model.specs.Course.{along, state_along, steps_of_delivery, answer_by, answer_held, answer_of_delivery, answer_text, said_by, Course, course_after, course_begun, course_remapping, course_to_end, led_to, said_behind, version_at}
@@ -31,7 +31,7 @@ use Rattle.run_model.proofs.Along.{along-push, along-still, asked-along, asks-pu
 use Rattle.run_model.proofs.Answers.{answer_held_by}
 use Rattle.run_model.proofs.Explaining.{along-asking, along-end, along-event, along-mapping, along-mark, asking_replies, end_replies, event_replies, event_rests, mapping_replies, mark_replies, open-taking}
 use Rattle.run_model.proofs.Needed.{all_met, due-none, first_met, needed-mapping, needed-watermark, none_left}
-use Rattle.run_model.proofs.Reports.{reported_still, steps-mapping, steps-none, steps-watermark}
+use Rattle.run_model.proofs.Reports.{changed_with, reported_still, steps-mapping, steps-none, steps-watermark}
 
 -- a question is the delivery that asks it, makes no step, needs no room and brings no version of the mapping
 pub question-asked : (q : Question) → question_of (asking q) ≡ Some q
@@ -51,18 +51,18 @@ asking-mapping (for_triples pattern) = refl
 asking-mapping (for_bindings shapes) = refl
 
 -- a delivery that doesn't ask is no answer
-answered_still : (report : Report) (reported : ℕ) (ds : List Delivery) (d : Delivery) (start : Beginning) → asks (d ∷ []) ≡ 0 → HasAnswered report reported ds start → HasAnswered report reported (ds ++ d ∷ []) start
+answered_still : (report : Report) (reported : Reported) (ds : List Delivery) (d : Delivery) (start : Beginning) → asks (d ∷ []) ≡ 0 → HasAnswered report reported ds start → HasAnswered report reported (ds ++ d ∷ []) start
 answered_still Answers reported ds d start none is = omega (arith, is, asks-push ds d, none)
 answered_still Changes reported ds d start none is = tt
 
 -- and neither is one that tells nothing where questions are answered
-answered_then : (report : Report) (reported reported_now : ℕ) (ds : List Delivery) (d : Delivery) (start : Beginning) → asks (d ∷ []) ≡ 0 → (report ≡ Answers → reported_now ≡ reported) → HasAnswered report reported ds start →
+answered_then : (report : Report) (reported reported_now : Reported) (ds : List Delivery) (d : Delivery) (start : Beginning) → asks (d ∷ []) ≡ 0 → (report ≡ Answers → reported_now.number ≡ reported.number) → HasAnswered report reported ds start →
     HasAnswered report reported_now (ds ++ d ∷ []) start
 answered_then Answers reported reported_now ds d start none same is = omega (arith, is, asks-push ds d, none, same refl)
 answered_then Changes reported reported_now ds d start none same is = tt
 
 -- where questions are answered, so many were
-pub is_answer : (ds : List Delivery) (start : Beginning) (report : Report) (reported : ℕ) → HasAnswered report reported ds start → report ≡ Answers → reported ≡ start.numbered.asks + asks ds
+pub is_answer : (ds : List Delivery) (start : Beginning) (report : Report) (reported : Reported) → HasAnswered report reported ds start → report ≡ Answers → reported.number ≡ start.numbered.asks + asks ds
 is_answer ds start Answers reported is answers = is
 is_answer ds start Changes reported is answers = cc
 
@@ -88,13 +88,13 @@ module _ (environment : Environment) (ds : List Delivery) (start : Beginning) wh
   all_steps now others first none are = sym (append-nil first) ∙ ap (λ l. first ++ l) (sym (steps-none (version_at ds start) others now.world none)) ∙ are
 
   -- where a delivery makes no step and says nothing, what was reported before it is reported with it
-  still_reported : (now then : Stage) (reported : ℕ) (d : Delivery) (others : Replies) → then.output ≡ now.output → first_due now.world.buffer ≡ None → first_due then.world.buffer ≡ None →
+  still_reported : (now then : Stage) (reported : Reported) (d : Delivery) (others : Replies) → then.output ≡ now.output → first_due now.world.buffer ≡ None → first_due then.world.buffer ≡ None →
       (environment.report ≡ Answers → answer_of_delivery environment.routes others (advanced_by others (standing start) ds) d ≡ []) → steps_of_delivery others (advanced_by others (standing start) ds) d ≡ [] →
       HasReported environment.report (course_after environment.routes ds start) reported start now others → HasReported environment.report (course_after environment.routes (ds ++ d ∷ []) start) reported start then others
   still_reported now then reported d others same rests rests_then says none =
       reported_still environment.report (course_after environment.routes ds start) (course_after environment.routes (ds ++ d ∷ []) start) reported start now then others same
       (λ answers. silent d others (says answers))
-      (λ changes first are. ap (λ l. first ++ l) (steps-none (version_at (ds ++ d ∷ []) start) others then.world rests_then) ∙ append-nil first
+      (λ first are. ap (λ l. first ++ l) (steps-none (version_at (ds ++ d ∷ []) start) others then.world rests_then) ∙ append-nil first
       ∙ all_steps now others first rests are ∙ sym (along-still steps_of_delivery others (standing start) ds d none))
 
   -- an event that is taken is no fetch
@@ -109,12 +109,12 @@ module _ (environment : Environment) (ds : List Delivery) (start : Beginning) wh
       }
 
   -- a world at rest is where the play is, with all replies that agree on what was applied
-  rest_is : (now : Stage) (reported : ℕ) (at_rest : AtRest environment ds reported start now) (others : Replies) → AgreeOnApplied now.world at_rest.leads.explained.replies others → now.world ≡ led_to ds start others
+  rest_is : (now : Stage) (reported : Reported) (at_rest : AtRest environment ds reported start now) (others : Replies) → AgreeOnApplied now.world at_rest.leads.explained.replies others → now.world ≡ led_to ds start others
   rest_is now reported at_rest =
       Explained-rests judgement environment.known (course_after environment.routes ds start).state (course_after environment.routes ds start).fetched at_rest.leads.made now.world at_rest.leads.explained at_rest.rests
 
   -- there was room for all that the play needs
-  rest_room : (now : Stage) (reported : ℕ) (at_rest : AtRest environment ds reported start now) (others : Replies) → AgreeOnApplied now.world at_rest.leads.explained.replies others → HaveRoom environment.limit (along needed_of_delivery others (standing start) ds)
+  rest_room : (now : Stage) (reported : Reported) (at_rest : AtRest environment ds reported start now) (others : Replies) → AgreeOnApplied now.world at_rest.leads.explained.replies others → HaveRoom environment.limit (along needed_of_delivery others (standing start) ds)
   rest_room now reported at_rest others agree =
       all_met environment.limit (needed_by_due (version_at ds start) others now.world) (along needed_of_delivery others (standing start) ds) (due-none (version_at ds start) others now.world at_rest.rests) (at_rest.leads.roomed others agree)
 
@@ -131,7 +131,7 @@ module _ (environment : Environment) (ds : List Delivery) (start : Beginning) wh
   still_mapped before now d none old new keeps is = keeps (version_at ds start) is ∙ ap (λ v. mapped_by v now) (sym (version-push start.mapped.version ds d ∙ ap (λ o. unwrap_or o (version_at ds start)) none))
 
   -- a world at rest isn't closed
-  pub rest_open : (now : Stage) (reported : ℕ) → AtRest environment ds reported start now → now.world.buffer.closed ≡ false
+  pub rest_open : (now : Stage) (reported : Reported) → AtRest environment ds reported start now → now.world.buffer.closed ≡ false
   rest_open now reported at_rest =
       ap (λ (w : ReplayState). w.buffer.closed)
       (Explained-is judgement environment.known (course_after environment.routes ds start).state (course_after environment.routes ds start).fetched at_rest.leads.made now.world at_rest.leads.explained at_rest.rests)
@@ -139,7 +139,7 @@ module _ (environment : Environment) (ds : List Delivery) (start : Beginning) wh
       ∙ at_rest.begun
 
   -- an event is taken
-  pub event_taken : (now : Stage) (reported : ℕ) (e : Event) → AtRest environment ds reported start now → AtRest environment (ds ++ Told e ∷ []) reported start (with_world now (after_event now.world e))
+  pub event_taken : (now : Stage) (reported : Reported) (e : Event) → AtRest environment ds reported start now → AtRest environment (ds ++ Told e ∷ []) reported start (with_world now (after_event now.world e))
   event_taken now reported e at_rest =
       let rests : first_due (after_event now.world e).buffer ≡ None = event_rests judgement environment.known (standing start) ds at_rest.leads.made now.world at_rest.leads.explained at_rest.rests (rest_open now reported at_rest) e in
       record {
@@ -166,7 +166,7 @@ module _ (environment : Environment) (ds : List Delivery) (start : Beginning) wh
   course_of_mark m = course_begun environment.routes ds (Some (Watermark m)) start
 
   -- a watermark is taken: there was room for all but what it makes due
-  mark_room : (now : Stage) (reported : ℕ) (m : ℤ) (at_rest : AtRest environment ds reported start now) (others : Replies) → AgreeOnApplied now.world at_rest.leads.explained.replies others →
+  mark_room : (now : Stage) (reported : Reported) (m : ℤ) (at_rest : AtRest environment ds reported start now) (others : Replies) → AgreeOnApplied now.world at_rest.leads.explained.replies others →
       HaveRoomBefore environment.limit (needed_by_due (version_at (ds ++ Watermark m ∷ []) start) others (after_mark now.world m)) (along needed_of_delivery others (standing start) (ds ++ Watermark m ∷ []))
   mark_room now reported m at_rest others agree =
       let first : List ℕ = along needed_of_delivery others (standing start) ds in
@@ -177,20 +177,20 @@ module _ (environment : Environment) (ds : List Delivery) (start : Beginning) wh
       (rest_room now reported at_rest others agree)
 
   -- what was reported is reported of the play with it, whose further steps are those that it makes due
-  mark_reported : (now : Stage) (reported : ℕ) (m : ℤ) (at_rest : AtRest environment ds reported start now) (others : Replies) → AgreeOnApplied now.world at_rest.leads.explained.replies others →
+  mark_reported : (now : Stage) (reported : Reported) (m : ℤ) (at_rest : AtRest environment ds reported start now) (others : Replies) → AgreeOnApplied now.world at_rest.leads.explained.replies others →
       HasReported environment.report (course_of_mark m) reported start (with_world now (after_mark now.world m)) others
   mark_reported now reported m at_rest others agree =
       let all : List Step = along steps_of_delivery others (standing start) ds in
       let v : MappingVersion = version_at (ds ++ Watermark m ∷ []) start in
       reported_still environment.report (course_after environment.routes ds start) (course_of_mark m) reported start now (with_world now (after_mark now.world m)) others refl (λ answers. refl)
-      (λ changes first are. ap (λ l. l ++ steps_due v others (after_mark now.world m)) (all_steps now others first at_rest.rests are)
+      (λ first are. ap (λ l. l ++ steps_due v others (after_mark now.world m)) (all_steps now others first at_rest.rests are)
       ∙ ap (λ u. all ++ steps_due u others (after_mark now.world m)) (version-push start.mapped.version ds (Watermark m))
       ∙ ap (λ w. all ++ steps_due (version_at ds start) others (after_mark w m)) (rest_is now reported at_rest others agree)
       ∙ sym (steps-watermark others (standing start) ds m))
       (at_rest.leads.says others agree)
 
   -- the end is taken: there was room for all but what waits
-  end_room : (now : Stage) (reported : ℕ) (at_rest : AtRest environment ds reported start now) (others : Replies) → AgreeOnApplied now.world at_rest.leads.explained.replies others →
+  end_room : (now : Stage) (reported : Reported) (at_rest : AtRest environment ds reported start now) (others : Replies) → AgreeOnApplied now.world at_rest.leads.explained.replies others →
       HaveRoomBefore environment.limit (needed_by_due (version_at ds start) others (after_end now.world)) (along needed_of_delivery others (standing start) ds ++ needed_by_due (version_at ds start) others (after_end (led_to ds start others)))
   end_room now reported at_rest others agree =
       let first : List ℕ = along needed_of_delivery others (standing start) ds in
@@ -199,17 +199,17 @@ module _ (environment : Environment) (ds : List Delivery) (start : Beginning) wh
       (rest_room now reported at_rest others agree)
 
   -- what was reported is reported of the play to the end, whose further steps are those of what waits
-  end_reported : (now : Stage) (reported : ℕ) (at_rest : AtRest environment ds reported start now) (others : Replies) → AgreeOnApplied now.world at_rest.leads.explained.replies others →
+  end_reported : (now : Stage) (reported : Reported) (at_rest : AtRest environment ds reported start now) (others : Replies) → AgreeOnApplied now.world at_rest.leads.explained.replies others →
       HasReported environment.report (course_to_end environment.routes ds start) reported start (with_world now (after_end now.world)) others
   end_reported now reported at_rest others agree =
       let all : List Step = along steps_of_delivery others (standing start) ds in
       reported_still environment.report (course_after environment.routes ds start) (course_to_end environment.routes ds start) reported start now (with_world now (after_end now.world)) others refl (λ answers. refl)
-      (λ changes first are. ap (λ l. l ++ steps_due (version_at ds start) others (after_end now.world)) (all_steps now others first at_rest.rests are)
+      (λ first are. ap (λ l. l ++ steps_due (version_at ds start) others (after_end now.world)) (all_steps now others first at_rest.rests are)
       ∙ ap (λ w. all ++ steps_due (version_at ds start) others (after_end w)) (rest_is now reported at_rest others agree))
       (at_rest.leads.says others agree)
 
   -- a watermark is taken: the world leads to the play with it
-  abbrev mark_leads : (now : Stage) (reported : ℕ) (m : ℤ) → AtRest environment ds reported start now → Leads environment (course_of_mark m) reported start (with_world now (after_mark now.world m))
+  abbrev mark_leads : (now : Stage) (reported : Reported) (m : ℤ) → AtRest environment ds reported start now → Leads environment (course_of_mark m) reported start (with_world now (after_mark now.world m))
   mark_leads now reported m at_rest = record {
     made = at_rest.leads.made;
     explained = along-mark judgement environment.known (standing start) ds at_rest.leads.made now.world at_rest.leads.explained at_rest.rests m;
@@ -222,7 +222,7 @@ module _ (environment : Environment) (ds : List Delivery) (start : Beginning) wh
   }
 
   -- the end is taken: the world leads to the play to the end
-  abbrev end_leads : (now : Stage) (reported : ℕ) → AtRest environment ds reported start now → Leads environment (course_to_end environment.routes ds start) reported start (with_world now (after_end now.world))
+  abbrev end_leads : (now : Stage) (reported : Reported) → AtRest environment ds reported start now → Leads environment (course_to_end environment.routes ds start) reported start (with_world now (after_end now.world))
   end_leads now reported at_rest = record {
     made = at_rest.leads.made;
     explained = along-end judgement environment.known (standing start) ds at_rest.leads.made now.world at_rest.leads.explained at_rest.rests;
@@ -235,11 +235,11 @@ module _ (environment : Environment) (ds : List Delivery) (start : Beginning) wh
   }
 
   -- every page is mapped by the version in force with the watermark
-  mark_mapped : (now : Stage) (reported : ℕ) (m : ℤ) → AtRest environment ds reported start now → now.mapped ≡ mapped_by (version_at (ds ++ Watermark m ∷ []) start) now.world.played.records
+  mark_mapped : (now : Stage) (reported : Reported) (m : ℤ) → AtRest environment ds reported start now → now.mapped ≡ mapped_by (version_at (ds ++ Watermark m ∷ []) start) now.world.played.records
   mark_mapped now reported m at_rest = still_mapped now.world.played.records now.world.played.records (Watermark m) refl now.mapped now.mapped (λ version is. is) at_rest.mapped
 
   -- a watermark is taken, and what is due is applied
-  pub mark_taken : (now then : Stage) (reported reported_now : ℕ) (m : ℤ) → AppliesDue environment reported reported_now (with_world now (after_mark now.world m)) then →
+  pub mark_taken : (now then : Stage) (reported reported_now : Reported) (m : ℤ) → AppliesDue environment reported reported_now (with_world now (after_mark now.world m)) then →
       KeepsVersion now.mapped then.mapped now.world.played.records then.world.played.records → now.output.faults ≤ then.output.faults → AtRest environment ds reported start now → AtRest environment (ds ++ Watermark m ∷ []) reported_now start then
   mark_taken now then reported reported_now m applies keeps more at_rest =
       let there = applies.leads (course_of_mark m) start (mark_mapped now reported m at_rest) (mark_leads now reported m at_rest) in
@@ -250,7 +250,7 @@ module _ (environment : Environment) (ds : List Delivery) (start : Beginning) wh
           counted = there.counted;
           documents = there.documents;
           says = λ others agree. reported_still environment.report (course_of_mark m) (course_after environment.routes (ds ++ Watermark m ∷ []) start) reported_now start then then others refl
-              (λ answers. silent (Watermark m) others refl) (λ changes first are. are) (there.says others agree);
+              (λ answers. silent (Watermark m) others refl) (λ first are. are) (there.says others agree);
           roomed = there.roomed;
         };
         answered = answered_then environment.report reported reported_now ds (Watermark m) start refl applies.answered at_rest.answered;
@@ -261,7 +261,7 @@ module _ (environment : Environment) (ds : List Delivery) (start : Beginning) wh
       }
 
   -- the end is taken, and what waits is applied
-  pub end_taken : (now then : Stage) (reported reported_now : ℕ) → AppliesDue environment reported reported_now (with_world now (after_end now.world)) then →
+  pub end_taken : (now then : Stage) (reported reported_now : Reported) → AppliesDue environment reported reported_now (with_world now (after_end now.world)) then →
       KeepsVersion now.mapped then.mapped now.world.played.records then.world.played.records → now.output.faults ≤ then.output.faults → AtRest environment ds reported start now → AtEnd environment ds reported_now start then
   end_taken now then reported reported_now applies keeps more at_rest = record {
     leads = applies.leads (course_to_end environment.routes ds start) start at_rest.mapped (end_leads now reported at_rest);
@@ -271,13 +271,13 @@ module _ (environment : Environment) (ds : List Delivery) (start : Beginning) wh
   }
 
   -- a world at rest is where its play is
-  pub rest_within : (now : Stage) (reported : ℕ) → AtRest environment ds reported start now → IsWithin (NotApplied PoolOutOfMemory) environment (course_begun environment.routes ds None start) (λ replies. led_to ds start replies) start now
+  pub rest_within : (now : Stage) (reported : Reported) → AtRest environment ds reported start now → IsWithin (NotApplied PoolOutOfMemory) environment (course_begun environment.routes ds None start) (λ replies. led_to ds start replies) start now
   rest_within now reported at_rest =
       let There : List Delivery → Type 0 = λ l. IsWithin (NotApplied PoolOutOfMemory) environment (record (course_after environment.routes l start) { bytes = said_behind environment.routes ds start }) (λ replies. led_to ds start replies) start now in
       subst There (sym (append-nil ds)) (within PoolOutOfMemory environment (course_after environment.routes ds start) (λ replies. led_to ds start replies) reported start now now.counts (no_call now.counts) (record { leads = at_rest.leads; steps = 0; is = rest_is now reported at_rest }))
 
   -- a watermark is taken, and some of what is due is applied
-  pub mark_begun : (halt : Halt) (now then : Stage) (reported : ℕ) (m : ℤ) → StaysWithin halt environment reported (with_world now (after_mark now.world m)) then → AtRest environment ds reported start now →
+  pub mark_begun : (halt : Halt) (now then : Stage) (reported : Reported) (m : ℤ) → StaysWithin halt environment reported (with_world now (after_mark now.world m)) then → AtRest environment ds reported start now →
       IsWithin halt environment (course_of_mark m) (λ replies. entered (led_to ds start replies) (Watermark m)) start then
   mark_begun halt now then reported m stays at_rest =
       stays (course_of_mark m) (λ replies. entered (led_to ds start replies) (Watermark m)) start (mark_mapped now reported m at_rest) (record {
@@ -288,7 +288,7 @@ module _ (environment : Environment) (ds : List Delivery) (start : Beginning) wh
       })
 
   -- the end is taken, and some of what waits is applied
-  pub end_begun : (halt : Halt) (now then : Stage) (reported : ℕ) → StaysWithin halt environment reported (with_world now (after_end now.world)) then → AtRest environment ds reported start now →
+  pub end_begun : (halt : Halt) (now then : Stage) (reported : Reported) → StaysWithin halt environment reported (with_world now (after_end now.world)) then → AtRest environment ds reported start now →
       IsWithin halt environment (course_to_end environment.routes ds start) (λ replies. after_end (led_to ds start replies)) start then
   end_begun halt now then reported stays at_rest =
       stays (course_to_end environment.routes ds start) (λ replies. after_end (led_to ds start replies)) start at_rest.mapped (record {
@@ -299,49 +299,62 @@ module _ (environment : Environment) (ds : List Delivery) (start : Beginning) wh
       })
 
   -- the answer of a world at rest is that of its play
-  answer_is : (now : Stage) (q : Question) (reported matched : ℕ) (at_rest : AtRest environment ds reported start now) (others : Replies) → AgreeOnApplied now.world at_rest.leads.explained.replies others →
-      reported ≡ start.numbered.asks + asks ds → matched ≡ start.numbered.matches + matches ds →
-      answer_held environment.routes reported matched now.mapped now.world.played.records q ≡ answer_of_delivery environment.routes others (advanced_by others (standing start) ds) (asking q)
+  answer_is : (now : Stage) (q : Question) (reported : Reported) (matched : ℕ) (at_rest : AtRest environment ds reported start now) (others : Replies) → AgreeOnApplied now.world at_rest.leads.explained.replies others →
+      reported.number ≡ start.numbered.asks + asks ds → matched ≡ start.numbered.matches + matches ds →
+      answer_held environment.routes reported.number matched now.mapped now.world.played.records q ≡ answer_of_delivery environment.routes others (advanced_by others (standing start) ds) (asking q)
   answer_is now q reported matched at_rest others agree asked counted =
       let c : Checkpoint = advanced_by others (standing start) ds in
-      answer_held_by environment.routes reported matched (version_at ds start) now.mapped now.world.played.records q at_rest.mapped
+      answer_held_by environment.routes reported.number matched (version_at ds start) now.mapped now.world.played.records q at_rest.mapped
       ∙ ap (λ n. answer_text environment.routes n matched (meaning (version_at ds start)) now.world.played.records q) (asked ∙ sym (asked-along others (standing start) ds))
       ∙ ap (λ n. answer_text environment.routes c.asked n (meaning (version_at ds start)) now.world.played.records q) (counted ∙ sym (matched-along others (standing start) ds))
       ∙ ap (λ v. answer_text environment.routes c.asked c.matched (meaning v) now.world.played.records q) (sym (version-along others (standing start) ds))
       ∙ ap (λ (w : ReplayState). answer_text environment.routes c.asked c.matched (meaning c.version) w.played.records q) (rest_is now reported at_rest others agree)
       ∙ ap (answer_by environment.routes c) (sym (question-asked q))
 
+  -- a question makes no step
+  asked_steps : (now : Stage) (q : Question) (others : Replies) (first : List Step) → first_due now.world.buffer ≡ None → first ++ steps_due (version_at ds start) others now.world ≡ along steps_of_delivery others (standing start) ds →
+      first ++ steps_due (version_at (ds ++ asking q ∷ []) start) others now.world ≡ along steps_of_delivery others (standing start) (ds ++ asking q ∷ [])
+  asked_steps now q others first rests are =
+      ap (λ l. first ++ l) (steps-none (version_at (ds ++ asking q ∷ []) start) others now.world rests) ∙ append-nil first
+      ∙ all_steps now others first rests are ∙ sym (along-still steps_of_delivery others (standing start) ds (asking q) (asking-steps others (advanced_by others (standing start) ds) q))
+
   -- a question is answered where questions are, and passed over where changes are reported
-  ask_reported : (report : Report) (now : Stage) (q : Question) (reported matched reported_now : ℕ) (out : Output) (others : Replies) → report ≡ environment.report → first_due now.world.buffer ≡ None →
-      AnswersQuestion report reported q (answer_held environment.routes reported matched now.mapped now.world.played.records q) now.output out (Ok reported_now) →
-      (report ≡ Answers → answer_held environment.routes reported matched now.mapped now.world.played.records q ≡ answer_of_delivery environment.routes others (advanced_by others (standing start) ds) (asking q)) →
+  ask_reported : (report : Report) (now : Stage) (q : Question) (reported : Reported) (matched : ℕ) (reported_now : Reported) (out : Output) (others : Replies) → report ≡ environment.report → first_due now.world.buffer ≡ None →
+      AnswersQuestion report reported q (answer_held environment.routes reported.number matched now.mapped now.world.played.records q) now.output out (Ok reported_now) →
+      (report ≡ Answers → answer_held environment.routes reported.number matched now.mapped now.world.played.records q ≡ answer_of_delivery environment.routes others (advanced_by others (standing start) ds) (asking q)) →
       HasReported report (course_after environment.routes ds start) reported start now others → HasReported report (course_after environment.routes (ds ++ asking q ∷ []) start) reported_now start (with_output now out) others
   ask_reported Answers now q reported matched reported_now out others is rests answers said_there x =
-      let answer : List ℕ = answer_held environment.routes reported matched now.mapped now.world.played.records q in
-      answers.1.outcome
-      ∙ ap (λ b. after_known b answer) x
-      ∙ after_twice start.output.bytes (said_by environment.routes others (standing start) ds) answer
-      ∙ ap (λ l. after_known start.output.bytes (said_by environment.routes others (standing start) ds ++ l)) (said_there refl)
-      ∙ ap (after_known start.output.bytes) (sym (along-push (answer_of_delivery environment.routes) others (standing start) ds (asking q)))
+      let answer : List ℕ = answer_held environment.routes reported.number matched now.mapped now.world.played.records q in
+      record {
+        steps = x.steps;
+        are = asked_steps now q others x.steps rests x.are;
+        changed = ap (λ (r : Reported). r.changed) answers.0 ∙ x.changed;
+        bytes = answers.1.outcome
+            ∙ ap (λ b. after_known b answer) x.bytes
+            ∙ after_twice start.output.bytes (said_by environment.routes others (standing start) ds) answer
+            ∙ ap (λ l. after_known start.output.bytes (said_by environment.routes others (standing start) ds ++ l)) (said_there refl)
+            ∙ ap (after_known start.output.bytes) (sym (along-push (answer_of_delivery environment.routes) others (standing start) ds (asking q)));
+      }
   ask_reported Changes now q reported matched reported_now out others is rests answers said_there x =
       let passed : HasReported Changes (course_after environment.routes (ds ++ asking q ∷ []) start) reported start (with_output now out) others = record {
         steps = x.steps;
-        are = ap (λ l. x.steps ++ l) (steps-none (version_at (ds ++ asking q ∷ []) start) others now.world rests) ∙ append-nil x.steps
-            ∙ all_steps now others x.steps rests x.are ∙ sym (along-still steps_of_delivery others (standing start) ds (asking q) (asking-steps others (advanced_by others (standing start) ds) q));
+        are = asked_steps now q others x.steps rests x.are;
         counted = x.counted;
         bytes = ap (λ (o : Output). o.bytes) answers.1 ∙ x.bytes;
       } in
-      subst (λ n. HasReported Changes (course_after environment.routes (ds ++ asking q ∷ []) start) n start (with_output now out) others) (sym answers.0) passed
+      subst (λ (r : Reported). HasReported Changes (course_after environment.routes (ds ++ asking q ∷ []) start) r start (with_output now out) others) (sym answers.0) passed
 
-  ask_answered : (report : Report) (q : Question) (reported reported_now : ℕ) (text : List ℕ) (old out : Output) → AnswersQuestion report reported q text old out (Ok reported_now) → HasAnswered report reported ds start → HasAnswered report reported_now (ds ++ asking q ∷ []) start
-  ask_answered Answers q reported reported_now text old out answers is = omega (arith, answers.0, is, asks-push ds (asking q))
+  ask_answered : (report : Report) (q : Question) (reported reported_now : Reported) (text : List ℕ) (old out : Output) → AnswersQuestion report reported q text old out (Ok reported_now) → HasAnswered report reported ds start → HasAnswered report reported_now (ds ++ asking q ∷ []) start
+  ask_answered Answers q reported reported_now text old out answers is =
+      let many : reported_now.number ≡ reported.number + asks (asking q ∷ []) = ap (λ (r : Reported). r.number) answers.0 in
+      omega (arith, many, is, asks-push ds (asking q))
   ask_answered Changes q reported reported_now text old out answers is = tt
 
-  ask_later : (report : Report) (q : Question) (reported reported_now : ℕ) (text : List ℕ) (old out : Output) → AnswersQuestion report reported q text old out (Ok reported_now) → old.faults ≤ out.faults
+  ask_later : (report : Report) (q : Question) (reported reported_now : Reported) (text : List ℕ) (old out : Output) → AnswersQuestion report reported q text old out (Ok reported_now) → old.faults ≤ out.faults
   ask_later Answers q reported reported_now text old out answers = answers.1.later
   ask_later Changes q reported reported_now text old out answers = rw answers.1 (omega arith)
 
-  pub ask_taken : (now : Stage) (q : Question) (reported matched reported_now : ℕ) (out : Output) → AnswersQuestion environment.report reported q (answer_held environment.routes reported matched now.mapped now.world.played.records q) now.output out (Ok reported_now) →
+  pub ask_taken : (now : Stage) (q : Question) (reported : Reported) (matched : ℕ) (reported_now : Reported) (out : Output) → AnswersQuestion environment.report reported q (answer_held environment.routes reported.number matched now.mapped now.world.played.records q) now.output out (Ok reported_now) →
       matched ≡ start.numbered.matches + matches ds → AtRest environment ds reported start now → AtRest environment (ds ++ asking q ∷ []) reported_now start (with_output now out)
   ask_taken now q reported matched reported_now out answers counted at_rest = record {
     leads = record {
@@ -366,7 +379,7 @@ module _ (environment : Environment) (ds : List Delivery) (start : Beginning) wh
   }
 
   -- another version of the mapping comes into force, by which every page is mapped: there was room for this too
-  mapping_room : (now : Stage) (reported : ℕ) (v : MappingVersion) (at_rest : AtRest environment ds reported start now) → HaveRoom environment.limit (needed_anew now.world.played.records (record { version = v; by_two = now.mapped.by_two })) →
+  mapping_room : (now : Stage) (reported : Reported) (v : MappingVersion) (at_rest : AtRest environment ds reported start now) → HaveRoom environment.limit (needed_anew now.world.played.records (record { version = v; by_two = now.mapped.by_two })) →
       (others : Replies) → AgreeOnApplied now.world at_rest.leads.explained.replies others →
       HaveRoomBefore environment.limit (needed_by_due (version_at (ds ++ Mapping v ∷ []) start) others now.world) (along needed_of_delivery others (standing start) (ds ++ Mapping v ∷ []))
   mapping_room now reported v at_rest have others agree =
@@ -378,31 +391,46 @@ module _ (environment : Environment) (ds : List Delivery) (start : Beginning) wh
       (due-none (version_at (ds ++ Mapping v ∷ []) start) others now.world at_rest.rests)
       (subst (HaveRoom environment.limit) (sym (needed-mapping others (standing start) ds v)) (Each-append (λ n. n ≤ environment.limit) _ _ (rest_room now reported at_rest others agree) anew))
 
-  -- its pages are told where changes are reported
-  mapping_reported : (report : Report) (now : Stage) (v : MappingVersion) (reported reported_now : ℕ) (mapped : Mapped) (out : Output) (others : Replies) → first_due now.world.buffer ≡ None →
+  -- its pages are the steps behind those so far
+  anew_steps : (now : Stage) (v : MappingVersion) (others : Replies) (first : List Step) → first_due now.world.buffer ≡ None → now.mapped ≡ mapped_by (version_at ds start) now.world.played.records → now.world ≡ led_to ds start others →
+      first ++ steps_due (version_at ds start) others now.world ≡ along steps_of_delivery others (standing start) ds →
+      (first ++ steps_anew v now.world.played.records now.mapped.by_two) ++ steps_due (version_at (ds ++ Mapping v ∷ []) start) others now.world ≡ along steps_of_delivery others (standing start) (ds ++ Mapping v ∷ [])
+  anew_steps now v others first rests is_mapped is are =
+      let anew : List Step = steps_anew v now.world.played.records now.mapped.by_two in
+      ap (λ l. (first ++ anew) ++ l) (steps-none (version_at (ds ++ Mapping v ∷ []) start) others now.world rests) ∙ append-nil (first ++ anew)
+      ∙ ap (λ l. l ++ anew) (all_steps now others first rests are)
+      ∙ ap (λ (m : Mapped). along steps_of_delivery others (standing start) ds ++ steps_anew v now.world.played.records m.by_two) is_mapped
+      ∙ ap (λ (w : ReplayState). along steps_of_delivery others (standing start) ds ++ steps_anew v w.played.records (all_by (version_at ds start) w.played.records)) is
+      ∙ sym (steps-mapping others (standing start) ds v)
+
+  -- they are told where changes are reported
+  mapping_reported : (report : Report) (now : Stage) (v : MappingVersion) (reported reported_now : Reported) (mapped : Mapped) (out : Output) (others : Replies) → first_due now.world.buffer ≡ None →
       now.mapped ≡ mapped_by (version_at ds start) now.world.played.records → now.world ≡ led_to ds start others →
       TellsBy report reported (steps_anew v now.world.played.records now.mapped.by_two) reported_now now.output out →
       HasReported report (course_after environment.routes ds start) reported start now others → HasReported report (course_after environment.routes (ds ++ Mapping v ∷ []) start) reported_now start (with_mapped (with_output now out) mapped) others
-  mapping_reported Answers now v reported reported_now mapped out others rests is_mapped is tells x = ap (λ (o : Output). o.bytes) tells.1 ∙ x ∙ sym (silent (Mapping v) others refl)
+  mapping_reported Answers now v reported reported_now mapped out others rests is_mapped is tells x =
+      let anew : List Step = steps_anew v now.world.played.records now.mapped.by_two in
+      record {
+        steps = x.steps ++ anew;
+        are = anew_steps now v others x.steps rests is_mapped is x.are;
+        changed = changed_with reported.changed reported_now.changed x.steps anew x.changed (ap (λ (r : Reported). r.changed) tells.0);
+        bytes = ap (λ (o : Output). o.bytes) tells.1 ∙ x.bytes ∙ sym (silent (Mapping v) others refl);
+      }
   mapping_reported Changes now v reported reported_now mapped out others rests is_mapped is tells x =
       let anew : List Step = steps_anew v now.world.played.records now.mapped.by_two in
       record {
         steps = x.steps ++ anew;
-        are = ap (λ l. (x.steps ++ anew) ++ l) (steps-none (version_at (ds ++ Mapping v ∷ []) start) others now.world rests) ∙ append-nil (x.steps ++ anew)
-            ∙ ap (λ l. l ++ anew) (all_steps now others x.steps rests x.are)
-            ∙ ap (λ (m : Mapped). along steps_of_delivery others (standing start) ds ++ steps_anew v now.world.played.records m.by_two) is_mapped
-            ∙ ap (λ (w : ReplayState). along steps_of_delivery others (standing start) ds ++ steps_anew v w.played.records (all_by (version_at ds start) w.played.records)) is
-            ∙ sym (steps-mapping others (standing start) ds v);
+        are = anew_steps now v others x.steps rests is_mapped is x.are;
         counted = tells.counted start.numbered.patches x.steps x.counted;
         bytes = tells.bytes start.numbered.patches x.steps start.output.bytes x.counted x.bytes;
       }
 
-  mapping_answered : (report : Report) (reported reported_now : ℕ) (steps : List Step) (old out : Output) → TellsBy report reported steps reported_now old out → report ≡ Answers → reported_now ≡ reported
-  mapping_answered Answers reported reported_now steps old out tells answers = tells.0
+  mapping_answered : (report : Report) (reported reported_now : Reported) (steps : List Step) (old out : Output) → TellsBy report reported steps reported_now old out → report ≡ Answers → reported_now.number ≡ reported.number
+  mapping_answered Answers reported reported_now steps old out tells answers = ap (λ (r : Reported). r.number) tells.0
   mapping_answered Changes reported reported_now steps old out tells answers = cc
 
   -- another version of the mapping comes into force, and every page is mapped by it
-  pub mapping_taken : (now : Stage) (mapped : Mapped) (v : MappingVersion) (reported reported_now : ℕ) (out : Output) → mapped ≡ mapped_by v now.world.played.records →
+  pub mapping_taken : (now : Stage) (mapped : Mapped) (v : MappingVersion) (reported reported_now : Reported) (out : Output) → mapped ≡ mapped_by v now.world.played.records →
       HaveRoom environment.limit (needed_anew now.world.played.records (record { version = v; by_two = now.mapped.by_two })) →
       TellsBy environment.report reported (steps_anew v now.world.played.records now.mapped.by_two) reported_now now.output out → now.output.faults ≤ out.faults →
       AtRest environment ds reported start now → AtRest environment (ds ++ Mapping v ∷ []) reported_now start (with_mapped (with_output now out) mapped)
@@ -426,19 +454,30 @@ module _ (environment : Environment) (ds : List Delivery) (start : Beginning) wh
     later = omega (arith, at_rest.later, more);
   }
 
+  -- pages that were remapped are steps behind those so far
+  paged_steps : (now : Stage) (pages : List Step) (others : Replies) (first : List Step) → first_due now.world.buffer ≡ None → first ++ steps_due (version_at ds start) others now.world ≡ along steps_of_delivery others (standing start) ds →
+      (first ++ pages) ++ steps_due (version_at ds start) others now.world ≡ along steps_of_delivery others (standing start) ds ++ pages
+  paged_steps now pages others first rests are =
+      ap (λ l. (first ++ pages) ++ l) (steps-none (version_at ds start) others now.world rests) ∙ append-nil (first ++ pages) ∙ ap (λ l. l ++ pages) (all_steps now others first rests are)
+
   -- pages were remapped and told after the play of these deliveries
-  pub remapping_reported : (report : Report) (now : Stage) (reported reported_now : ℕ) (pages : List Step) (mapped : Mapped) (out : Output) (others : Replies) → first_due now.world.buffer ≡ None →
+  pub remapping_reported : (report : Report) (now : Stage) (reported reported_now : Reported) (pages : List Step) (mapped : Mapped) (out : Output) (others : Replies) → first_due now.world.buffer ≡ None →
       TellsBy report reported pages reported_now now.output out → HasReported report (course_after environment.routes ds start) reported start now others →
       HasReported report (course_remapping environment.routes pages ds start) reported_now start (with_mapped (with_output now out) mapped) others
-  remapping_reported Answers now reported reported_now pages mapped out others rests tells x = ap (λ (o : Output). o.bytes) tells.1 ∙ x
+  remapping_reported Answers now reported reported_now pages mapped out others rests tells x = record {
+    steps = x.steps ++ pages;
+    are = paged_steps now pages others x.steps rests x.are;
+    changed = changed_with reported.changed reported_now.changed x.steps pages x.changed (ap (λ (r : Reported). r.changed) tells.0);
+    bytes = ap (λ (o : Output). o.bytes) tells.1 ∙ x.bytes;
+  }
   remapping_reported Changes now reported reported_now pages mapped out others rests tells x = record {
     steps = x.steps ++ pages;
-    are = ap (λ l. (x.steps ++ pages) ++ l) (steps-none (version_at ds start) others now.world rests) ∙ append-nil (x.steps ++ pages) ∙ ap (λ l. l ++ pages) (all_steps now others x.steps rests x.are);
+    are = paged_steps now pages others x.steps rests x.are;
     counted = tells.counted start.numbered.patches x.steps x.counted;
     bytes = tells.bytes start.numbered.patches x.steps start.output.bytes x.counted x.bytes;
   }
 
-  abbrev pub remapping_leads : (now : Stage) (reported reported_now : ℕ) (pages : List Step) (mapped : Mapped) (out : Output) → TellsBy environment.report reported pages reported_now now.output out → AtRest environment ds reported start now →
+  abbrev pub remapping_leads : (now : Stage) (reported reported_now : Reported) (pages : List Step) (mapped : Mapped) (out : Output) → TellsBy environment.report reported pages reported_now now.output out → AtRest environment ds reported start now →
       Leads environment (course_remapping environment.routes pages ds start) reported_now start (with_mapped (with_output now out) mapped)
   remapping_leads now reported reported_now pages mapped out tells at_rest = record {
     made = at_rest.leads.made;
@@ -450,18 +489,18 @@ module _ (environment : Environment) (ds : List Delivery) (start : Beginning) wh
   }
 
   -- how many records there are then
-  remapping_many : (report : Report) (now : Stage) (reported reported_now : ℕ) (pages : List Step) (out : Output) (others : Replies) → first_due now.world.buffer ≡ None →
-      TellsBy report reported pages reported_now now.output out → HasReported report (course_after environment.routes ds start) reported start now others → report ≡ Changes → reported_now ≡ start.numbered.patches + changes (along steps_of_delivery others (standing start) ds ++ pages)
+  remapping_many : (report : Report) (now : Stage) (reported reported_now : Reported) (pages : List Step) (out : Output) (others : Replies) → first_due now.world.buffer ≡ None →
+      TellsBy report reported pages reported_now now.output out → HasReported report (course_after environment.routes ds start) reported start now others → report ≡ Changes → reported_now.number ≡ start.numbered.patches + changes (along steps_of_delivery others (standing start) ds ++ pages)
   remapping_many Answers now reported reported_now pages out others rests tells x told = cc
   remapping_many Changes now reported reported_now pages out others rests tells x told = tells.counted start.numbered.patches x.steps x.counted ∙ ap (λ l. start.numbered.patches + changes (l ++ pages)) (all_steps now others x.steps rests x.are)
 
-  pub remapping_counted : (now : Stage) (reported reported_now : ℕ) (pages : List Step) (out : Output) → TellsBy environment.report reported pages reported_now now.output out → (at_rest : AtRest environment ds reported start now) →
-      environment.report ≡ Changes → reported_now ≡ start.numbered.patches + changes (along steps_of_delivery at_rest.leads.explained.replies (standing start) ds ++ pages)
+  pub remapping_counted : (now : Stage) (reported reported_now : Reported) (pages : List Step) (out : Output) → TellsBy environment.report reported pages reported_now now.output out → (at_rest : AtRest environment ds reported start now) →
+      environment.report ≡ Changes → reported_now.number ≡ start.numbered.patches + changes (along steps_of_delivery at_rest.leads.explained.replies (standing start) ds ++ pages)
   remapping_counted now reported reported_now pages out tells at_rest told =
       remapping_many environment.report now reported reported_now pages out at_rest.leads.explained.replies at_rest.rests tells (at_rest.leads.says at_rest.leads.explained.replies (λ q r h. refl)) told
 
 -- an event wasn't taken
-pub event_cut_off : (environment : Environment) (e : Event) (reported matched : ℕ) (now : Stage) → CutsOff OutOfMemory environment (turn reported matched (Told e)) now now
+pub event_cut_off : (environment : Environment) (e : Event) (reported : Reported) (matched : ℕ) (now : Stage) → CutsOff OutOfMemory environment (turn reported matched (Told e)) now now
 event_cut_off environment e reported matched now = inr (inl (
   NotApplied PoolOutOfMemory,
   refl,
@@ -474,20 +513,20 @@ event_cut_off environment e reported matched now = inr (inl (
 ))
 
 -- a watermark was taken, and some of what was due was applied
-pub mark_cut_off : (halt : Halt) (environment : Environment) (m : ℤ) (reported matched : ℕ) (now then : Stage) → IsHeldUp halt environment now.output then →
+pub mark_cut_off : (halt : Halt) (environment : Environment) (m : ℤ) (reported : Reported) (matched : ℕ) (now then : Stage) → IsHeldUp halt environment now.output then →
     KeepsVersion now.mapped then.mapped now.world.played.records then.world.played.records → StaysWithin halt environment reported (with_world now (after_mark now.world m)) then →
     CutsOff (stop_of_halt halt) environment (turn reported matched (Watermark m)) now then
 mark_cut_off halt environment m reported matched now then held_up keeps stays =
     inr (inl (halt, refl, record { kind = tt; held_up = held_up; mapped = keeps; world = λ ds start at_rest. inr (mark_begun environment ds start halt now then reported m stays at_rest) }))
 
 -- a question was answered in part
-pub ask_cut_off : (report : Report) (why : Unwritten) (environment : Environment) (q : Question) (reported matched : ℕ) (now : Stage) (out : Output) → environment.report ≡ report →
-    AnswersQuestion report reported q (answer_held environment.routes reported matched now.mapped now.world.played.records q) now.output out (Err why) → CutsOff (stop_of_unwritten why) environment (turn reported matched (asking q)) now (with_output now out)
+pub ask_cut_off : (report : Report) (why : Unwritten) (environment : Environment) (q : Question) (reported : Reported) (matched : ℕ) (now : Stage) (out : Output) → environment.report ≡ report →
+    AnswersQuestion report reported q (answer_held environment.routes reported.number matched now.mapped now.world.played.records q) now.output out (Err why) → CutsOff (stop_of_unwritten why) environment (turn reported matched (asking q)) now (with_output now out)
 ask_cut_off Answers why environment q reported matched now out is prints = inl (why, refl, record { answers = is; question = q; is = refl; world = refl; mapped = refl; counts = refl; cut_short = prints.outcome })
 ask_cut_off Changes why environment q reported matched now out is never = absurd never
 
 -- another version of the mapping came into force, and some of what is held was remapped
-pub mapping_cut_off : (halt : Halt) (environment : Environment) (v : MappingVersion) (reported matched : ℕ) (now : Stage) (mapped : Mapped) (out : Output) →
+pub mapping_cut_off : (halt : Halt) (environment : Environment) (v : MappingVersion) (reported : Reported) (matched : ℕ) (now : Stage) (mapped : Mapped) (out : Output) →
     RemapsPages halt environment.report environment.limit reported v now.world.played.records now.mapped mapped now.output out →
     CutsOff (stop_of_halt halt) environment (turn reported matched (Mapping v)) now (with_mapped (with_output now out) mapped)
 mapping_cut_off halt environment v reported matched now mapped out remaps = inr (inr (halt, refl, record { version = v; is = refl; counts = refl; world = refl; remaps = remaps }))

@@ -21,7 +21,7 @@ use Rattle.world.specs.declared.applied.Outcome.TheVariants.{Same, Dropped}
 use Rattle.text_output.specs.{declared.write.Unwritten.Unwritten, Printing.Output}
 use Rattle.patch_stream.specs.Stream.{Step, step, steps_due}
 use Rattle.run_model.specs.Moment.{SourceCounts, HasCounted, HasCountedUnapplied, HasGoneOn, RoseBy, Beginning, Environment, Stage, onward, environment, stage_in, with_mapped, with_world}
-use Rattle.run_model.specs.{Course.Course, declared.report.Report.Report, declared.report.Report.TheVariants.Answers}
+use Rattle.run_model.specs.{Course.Course, declared.report.Report.Report, declared.report.Reported.Reported, declared.report.Report.TheVariants.Answers}
 use Rattle.run_model.specs.declared.stop.Halt.TheVariants.{Unapplied as NotApplied, Unprinted}
 use Rattle.run_model.specs.Remapping.{HaveRoom, HaveRoomBefore, needed_by, needed_by_due, needed_for, KeepsVersion, Mapped, held_triples, mapped_by}
 use Rattle.run_model.specs.Report.{HasReported, HasReportedAt}
@@ -35,9 +35,9 @@ use Rattle.run_model.proofs.Reports.{reported_but_last, reported_next, reported_
 use Rattle.run_model.proofs.Versions.{all_held_by}
 
 -- events are applied and told: the world leads where it led, where every page was mapped by the version of the play
-pub record Goes (environment : Environment) (reported reported_now : ℕ) (before now : Stage) : Type 0 where
+pub record Goes (environment : Environment) (reported reported_now : Reported) (before now : Stage) : Type 0 where
   pub leads : (course : Course) (begun : Replies → ReplayState) (start : Beginning) → before.mapped ≡ mapped_by course.version before.world.played.records → IsUnderWay environment course begun reported start before → IsUnderWay environment course begun reported_now start now
-  pub answered : environment.report ≡ Answers → reported_now ≡ reported
+  pub answered : environment.report ≡ Answers → reported_now.number ≡ reported.number
 
 -- the counts after an application, as its outcome shows
 pub record Rises (outcome : Outcome) (before now : SourceCounts) : Type 0 where
@@ -136,7 +136,7 @@ abbrev pub step_between : Stage → Stage → Step
 step_between before now = step (held_triples before.mapped before.world.played.records) (held_triples now.mapped now.world.played.records)
 
 -- what a play has right after the least due event was applied, but for what is reported of it
-pub record LeadsOn (environment : Environment) (course : Course) (reported : ℕ) (start : Beginning) (before now : Stage) (x : Leads environment course reported start before) : Type 0 where
+pub record LeadsOn (environment : Environment) (course : Course) (reported : Reported) (start : Beginning) (before now : Stage) (x : Leads environment course reported start before) : Type 0 where
   pub made : ℕ
   pub explained : Explained judgement environment.known course.state course.fetched made now.world
   pub counted : HasCounted start.counts now.counts start.world.played.side made now.world.played.side
@@ -157,7 +157,7 @@ pub record IsApplied (contents : Option Contents) (folder : List ℕ) (limit : �
 
 -- the world still leads to its play, one application further
 applies-on : (routes : Option (List Route)) (report : Report) (contents : Option Contents) (folder : List ℕ) (limit : ℕ) (before now : Stage) → IsApplied contents folder limit before now →
-    (course : Course) (reported : ℕ) (start : Beginning) → before.mapped ≡ mapped_by course.version before.world.played.records →
+    (course : Course) (reported : Reported) (start : Beginning) → before.mapped ≡ mapped_by course.version before.world.played.records →
     (x : Leads (environment routes report contents folder limit) course reported start before) → LeadsOn (environment routes report contents folder limit) course reported start before now x
 applies-on routes report contents folder limit before now is course reported start is_mapped x =
     let known : Option (ℕ → Option Bytes) = (environment routes report contents folder limit).known in
@@ -197,7 +197,7 @@ applies-on routes report contents folder limit before now is course reported sta
     subst There (sym a.new_is) there
 
 -- and it is told
-pub applies-leads : (routes : Option (List Route)) (report : Report) (contents : Option Contents) (folder : List ℕ) (limit : ℕ) (reported reported_now : ℕ) (before now : Stage) → IsApplied contents folder limit before now →
+pub applies-leads : (routes : Option (List Route)) (report : Report) (contents : Option Contents) (folder : List ℕ) (limit : ℕ) (reported reported_now : Reported) (before now : Stage) → IsApplied contents folder limit before now →
     TellsStepBy report reported (step_between before now) before.output now.output (Ok reported_now) → Goes (environment routes report contents folder limit) reported reported_now before now
 applies-leads routes report contents folder limit reported reported_now before now is tells = record {
   leads = λ course begun start is_mapped under_way.
@@ -219,11 +219,11 @@ applies-leads routes report contents folder limit reported reported_now before n
 }
 
 -- before the first event
-pub goes-nowhere : (environment : Environment) (reported : ℕ) (now : Stage) → Goes environment reported reported now now
+pub goes-nowhere : (environment : Environment) (reported : Reported) (now : Stage) → Goes environment reported reported now now
 goes-nowhere environment reported now = record { leads = λ course begun start is_mapped under_way. under_way; answered = λ answers. refl }
 
 -- some events, and then more
-pub goes-further : (environment : Environment) (reported between reported_now : ℕ) (before middle now : Stage) → KeepsVersion before.mapped middle.mapped before.world.played.records middle.world.played.records →
+pub goes-further : (environment : Environment) (reported between reported_now : Reported) (before middle now : Stage) → KeepsVersion before.mapped middle.mapped before.world.played.records middle.world.played.records →
     Goes environment reported between before middle → Goes environment between reported_now middle now → Goes environment reported reported_now before now
 goes-further environment reported between reported_now before middle now keeps first then = record {
   leads = λ course begun start is_mapped under_way. then.leads course begun start (keeps course.version is_mapped) (first.leads course begun start is_mapped under_way);
@@ -271,7 +271,7 @@ pub no_call : (counts : SourceCounts) → Lasts OutOfMemory counts counts
 no_call counts = record { calls = inl refl; faults = omega arith; misses = omega arith }
 
 -- no event is left: the last call has made no fetch
-pub none_due : (environment : Environment) (reported reported_now : ℕ) (before : Stage) (out : Output) (now last : SourceCounts) (world new : WorldState) → Goes environment reported reported_now before (stage_in out now world) →
+pub none_due : (environment : Environment) (reported reported_now : Reported) (before : Stage) (out : Output) (now last : SourceCounts) (world new : WorldState) → Goes environment reported reported_now before (stage_in out now world) →
     last.calls ≡ now.calls → now.faults ≤ last.faults → now.misses ≤ last.misses → new ≡ world → first_due world.replay.buffer ≡ None → AppliesDue environment reported reported_now before (stage_in out last new)
 none_due environment reported reported_now before out now last world new goes calls faults misses same none = rw same (record {
   leads = λ course start is_mapped leads.
@@ -281,7 +281,7 @@ none_due environment reported reported_now before out now last world new goes ca
         explained = there.explained;
         counted = counted_on start.counts now last start.world.played.side _ _ _ (calls ∙ there.counted.calls) faults misses there.counted;
         documents = there.documents;
-        says = λ others agree. reported_still environment.report course course reported_now start (stage_in out now world) (stage_in out last world) others refl (λ answers. refl) (λ changes first is. is) (there.says others agree);
+        says = λ others agree. reported_still environment.report course course reported_now start (stage_in out now world) (stage_in out last world) others refl (λ answers. refl) (λ first is. is) (there.says others agree);
         roomed = there.roomed;
       };
   rests = none;
@@ -289,13 +289,13 @@ none_due environment reported reported_now before out now last world new goes ca
 })
 
 -- a world that is under way in a play is where some of its due events were applied, after a call that applied nothing too
-pub within : (why : StoreFault) (environment : Environment) (course : Course) (begun : Replies → ReplayState) (reported : ℕ) (start : Beginning) (now : Stage) (counts : SourceCounts) → Lasts why now.counts counts → IsUnderWay environment course begun reported start now →
+pub within : (why : StoreFault) (environment : Environment) (course : Course) (begun : Replies → ReplayState) (reported : Reported) (start : Beginning) (now : Stage) (counts : SourceCounts) → Lasts why now.counts counts → IsUnderWay environment course begun reported start now →
     IsWithin (NotApplied why) environment course begun start (onward now counts now.world)
 within why environment course begun reported start now counts last under_way =
     let honest : (contents : ℕ → Option Bytes) → environment.known ≡ Some contents → AgreeOnApplied now.world under_way.leads.explained.replies (replies_there contents now.world) =
     λ contents is q r h. sym (under_way.leads.explained.honest contents is q r) in
     let says : (others : Replies) → AgreeOnApplied now.world under_way.leads.explained.replies others → HasReported environment.report course reported start (onward now counts now.world) others =
-    λ others agree. reported_still environment.report course course reported start now (onward now counts now.world) others refl (λ answers. refl) (λ changes first is. is) (under_way.leads.says others agree) in
+    λ others agree. reported_still environment.report course course reported start now (onward now counts now.world) others refl (λ answers. refl) (λ first is. is) (under_way.leads.says others agree) in
     record {
       steps = under_way.steps;
       replies = under_way.leads.explained.replies;
@@ -314,7 +314,7 @@ within why environment course begun reported start now counts last under_way =
     }
 
 -- an event was applied, and isn't told wholly
-within_unprinted : (routes : Option (List Route)) (report : Report) (why : Unwritten) (contents : Option Contents) (folder : List ℕ) (limit : ℕ) (course : Course) (begun : Replies → ReplayState) (reported : ℕ) (start : Beginning) (before now : Stage) →
+within_unprinted : (routes : Option (List Route)) (report : Report) (why : Unwritten) (contents : Option Contents) (folder : List ℕ) (limit : ℕ) (course : Course) (begun : Replies → ReplayState) (reported : Reported) (start : Beginning) (before now : Stage) →
     (u : IsUnderWay (environment routes report contents folder limit) course begun reported start before) → LeadsOn (environment routes report contents folder limit) course reported start before now u.leads →
     TellsStepBy report reported (step_between before now) before.output now.output (Err why) → IsWithin (Unprinted why) (environment routes report contents folder limit) course begun start now
 within_unprinted routes report why contents folder limit course begun reported start before now u on tells =
@@ -345,8 +345,8 @@ within_unprinted routes report why contents folder limit course begun reported s
 pub within_mapped : (why : StoreFault) (environment : Environment) (course : Course) (begun : Replies → ReplayState) (start : Beginning) (now : Stage) (mapped : Mapped) → IsWithin (NotApplied why) environment course begun start now →
     IsWithin (NotApplied why) environment course begun start (with_mapped now mapped)
 within_mapped why environment course begun start now mapped x =
-    let says : (reported : ℕ) (others : Replies) → HasReported environment.report course reported start now others → HasReported environment.report course reported start (with_mapped now mapped) others =
-    λ reported others. reported_still environment.report course course reported start now (with_mapped now mapped) others refl (λ answers. refl) (λ changes first is. is) in
+    let says : (reported : Reported) (others : Replies) → HasReported environment.report course reported start now others → HasReported environment.report course reported start (with_mapped now mapped) others =
+    λ reported others. reported_still environment.report course course reported start now (with_mapped now mapped) others refl (λ answers. refl) (λ first is. is) in
     record {
       steps = x.steps;
       replies = x.replies;
@@ -365,13 +365,13 @@ within_mapped why environment course begun start now mapped x =
     }
 
 -- an event isn't applied: the world is that before
-pub starved : (why : StoreFault) (environment : Environment) (reported reported_now : ℕ) (before : Stage) (out : Output) (now last : SourceCounts) (world new : WorldState) → Goes environment reported reported_now before (stage_in out now world) →
+pub starved : (why : StoreFault) (environment : Environment) (reported reported_now : Reported) (before : Stage) (out : Output) (now last : SourceCounts) (world new : WorldState) → Goes environment reported reported_now before (stage_in out now world) →
     Lasts why now last → new ≡ world → StaysWithin (NotApplied why) environment reported before (stage_in out last new)
 starved why environment reported reported_now before out now last world new goes lasts same =
     rw same (λ course begun start is_mapped under_way. within why environment course begun reported_now start (stage_in out now world) last lasts (goes.leads course begun start is_mapped under_way))
 
 -- an event is applied, and isn't told wholly
-pub unprinted : (routes : Option (List Route)) (report : Report) (why : Unwritten) (contents : Option Contents) (folder : List ℕ) (limit : ℕ) (reported between : ℕ) (before middle now : Stage) → KeepsVersion before.mapped middle.mapped before.world.played.records middle.world.played.records →
+pub unprinted : (routes : Option (List Route)) (report : Report) (why : Unwritten) (contents : Option Contents) (folder : List ℕ) (limit : ℕ) (reported between : Reported) (before middle now : Stage) → KeepsVersion before.mapped middle.mapped before.world.played.records middle.world.played.records →
     Goes (environment routes report contents folder limit) reported between before middle → IsApplied contents folder limit middle now → TellsStepBy report between (step_between middle now) middle.output now.output (Err why) →
     StaysWithin (Unprinted why) (environment routes report contents folder limit) reported before now
 unprinted routes report why contents folder limit reported between before middle now keeps goes is tells = λ course begun start is_mapped under_way.

@@ -20,12 +20,12 @@ use Rattle.text_output.specs.declared.write.Unwritten.{Unwritten}
 use Rattle.text_output.specs.declared.write.Unwritten.TheVariants.{WriteFault as NotWritten, OutOfMemory as UnwrittenOutOfMemory}
 use Rattle.text_output.specs.Printing.{Output, Prints}
 use Rattle.checkpoint.specs.Archive.{Archive}
-use Rattle.patch_stream.specs.Stream.{changes}
-use Rattle.run_model.specs.Moment.{RoseBy, HasCounted, Beginning, IsFirst, Moment, Run, Environment, Stage, horizon_at, start_of, with_output, sections_of, numbers_after, numbers_of, up_to_saves}
+use Rattle.patch_stream.specs.Stream.{Step, changes, has_change, steps_due}
+use Rattle.run_model.specs.Moment.{RoseBy, HasCounted, Beginning, IsFirst, Moment, Run, Environment, Stage, horizon_at, start_of, with_output, sections_of, numbers_after, numbers_of, reported_as, up_to_saves}
 use Rattle.run_model.specs.Course.{Course, course_after, course_ended, course_to_end, version_at, closing_by, closing_held}
 use Rattle.run_model.specs.Headline.{BrokenOff, HasFates, HasReplayed, HoldsRightly, IsInterrupted, IsUnsaved, KeepsOnTheWay, IsPlayed, IsReplayed, NamesRightly, StandsAtMapping, StandsAtPage, Stopped, IsHalted}
 use Rattle.run_model.specs.{Reading.AreDeliveries, Remapping.IsLeftStale, Remapping.Mapped, Remapping.mapped_by, Report.HasReported}
-use Rattle.run_model.specs.{Stop.stop_of_halt, Stop.stop_of_unapplied, Stop.stop_of_unwritten, declared.report.Report.Report}
+use Rattle.run_model.specs.{Stop.stop_of_halt, Stop.stop_of_unapplied, Stop.stop_of_unwritten, declared.report.Report.Report, declared.report.Reported.Reported}
 use Rattle.run_model.specs.declared.lines_taken.LinesTaken.{LinesTaken}
 use Rattle.run_model.specs.{declared.report.Report.TheVariants.Answers, declared.report.Report.TheVariants.Changes, declared.stop.Halt.Halt}
 use Rattle.run_model.specs.declared.stop.Halt.TheVariants.{Unapplied as NotApplied, Unprinted}
@@ -39,8 +39,18 @@ use Rattle.arguments.specs.Options.{closes, max_bytes_of}
 use Rattle.run_model.proofs.{FromNothing.ended_first, FromNothing.led_first, Needed.all_met, Needed.due-none}
 use Rattle.run_model.proofs.{Reports.all_reported, Reports.steps-none, Answers.closing_held_by}
 
+-- where no event is due, the steps so far are all
+whole_steps : (course : Course) (now : Stage) (replies : Replies) (steps : List Step) → first_due now.world.buffer ≡ None → steps ++ steps_due course.version replies now.world ≡ course.steps replies → steps ≡ course.steps replies
+whole_steps course now replies steps none are = sym (append-nil steps) ∙ ap (λ l. steps ++ l) (sym (steps-none course.version replies now.world none)) ∙ are
+
+-- so it is known of all steps whether one changed what is stored
+pub changed_by : (report : Report) (course : Course) (reported : Reported) (start : Beginning) (now : Stage) (replies : Replies) → first_due now.world.buffer ≡ None → report ≡ Answers → HasReported report course reported start now replies →
+    reported.changed ≡ has_change (course.steps replies)
+changed_by Answers course reported start now replies none answers says = says.changed ∙ ap has_change (whole_steps course now replies says.steps none says.are)
+changed_by Changes course reported start now replies none answers says = cc
+
 -- where no event is due, a world that leads to a play is played
-abbrev pub is_played : (environment : Environment) (course : Course) (reported : ℕ) (start : Beginning) (now : Stage) → Leads environment course reported start now → first_due now.world.buffer ≡ None → now.mapped ≡ mapped_by course.version now.world.played.records →
+abbrev pub is_played : (environment : Environment) (course : Course) (reported : Reported) (start : Beginning) (now : Stage) → Leads environment course reported start now → first_due now.world.buffer ≡ None → now.mapped ≡ mapped_by course.version now.world.played.records →
     IsPlayed environment course start now
 is_played environment course reported start now x rests mapped = record {
   replies = x.explained.replies;
@@ -57,6 +67,9 @@ is_played environment course reported start now x rests mapped = record {
       all_reported environment.report course reported start now (replies_there contents now.world) rests (x.says (replies_there contents now.world) (λ q r h. sym (x.explained.honest contents is q r)));
   source_roomed = λ contents is.
       all_met environment.limit _ _ (due-none course.version (replies_there contents now.world) now.world rests) (x.roomed (replies_there contents now.world) (λ q r h. sym (x.explained.honest contents is q r)));
+  source_changes = λ contents is answers.
+      sym (changed_by environment.report course reported start now (replies_there contents now.world) rests answers (x.says (replies_there contents now.world) (λ q r h. sym (x.explained.honest contents is q r))))
+      ∙ changed_by environment.report course reported start now x.explained.replies rests answers (x.says x.explained.replies (λ q r h. refl));
   source_counted = λ contents is.
       subst (λ (n : ℕ). HasCounted start.counts now.counts start.world.played.side n now.world.played.side) (Explained-source_fetches judgement environment.known course.state course.fetched x.made now.world x.explained rests contents is) x.counted;
 }
@@ -109,7 +122,7 @@ is_replayed environment course ds start now leads play = record {
     source first contents is = leads first (replies_there contents now.world) ∙ ap (λ (w : ReplayState). w.played) (sym (play.source contents is))
 
 -- where the input ends the deliveries, and they were taken with the end, they were replayed
-pub replayed : (run : Run) (before now : Moment) (ds : List Delivery) (reported : ℕ) → KeepsOnTheWay run (start_of run before) (up_to_saves run.choices.every ds) before.snapshot.kept now.snapshot.kept → closes run.choices ≡ true → IsAtEnd now.input.left → IfSome before.input.left (λ bytes. AreDeliveries (max_bytes_of run.choices) bytes ds) →
+pub replayed : (run : Run) (before now : Moment) (ds : List Delivery) (reported : Reported) → KeepsOnTheWay run (start_of run before) (up_to_saves run.choices.every ds) before.snapshot.kept now.snapshot.kept → closes run.choices ≡ true → IsAtEnd now.input.left → IfSome before.input.left (λ bytes. AreDeliveries (max_bytes_of run.choices) bytes ds) →
     AtEnd run.environment ds reported (start_of run before) now.stage → (numbers : Counts) → HasTakenAll run numbers before now
 replayed run before now ds reported kept closed read are at_end numbers =
     let Replay : Bool → Type 0 = λ b. IsReplayed run.environment (course_ended run.environment.routes b ds (start_of run before)) ds (start_of run before) now.stage in
@@ -126,18 +139,25 @@ replayed run before now ds reported kept closed read are at_end numbers =
     }
 
 -- what the counts are of a play where no event is due
-pub numbers_are : (report : Report) (course : Course) (ds : List Delivery) (reported matched lines : ℕ) (start : Beginning) (now : Stage) (replies : Replies) → first_due now.world.buffer ≡ None → HasAnswered report reported ds start →
+pub numbers_are : (report : Report) (course : Course) (ds : List Delivery) (reported : Reported) (matched lines : ℕ) (start : Beginning) (now : Stage) (replies : Replies) → first_due now.world.buffer ≡ None → HasAnswered report reported ds start →
     HasReported report course reported start now replies → matched ≡ start.numbered.matches + matches ds → lines ≡ start.numbered.lines + length ds →
     numbers_after start.numbered report reported matched lines ≡ numbers_of report course.steps ds start replies
 numbers_are Answers course ds reported matched lines start now replies none answered says matches_are lines_are =
-    ap (λ n. numbers_after start.numbered Answers n matched lines) answered
-    ∙ ap (λ m. numbers_after start.numbered Answers (start.numbered.asks + asks ds) m lines) matches_are
-    ∙ ap (numbers_after start.numbered Answers (start.numbered.asks + asks ds) (start.numbered.matches + matches ds)) lines_are
-numbers_are Changes course ds reported matched lines start now replies none answered says matches_are lines_are =
-    ap (λ n. numbers_after start.numbered Changes n matched lines) told_are ∙ ap (numbers_after start.numbered Changes (start.numbered.patches + changes (course.steps replies)) matched) lines_are
+    ap (λ n. numbers_after start.numbered Answers (reported_as n reported.changed) matched lines) answered
+    ∙ ap (λ b. numbers_after start.numbered Answers (reported_as (start.numbered.asks + asks ds) b) matched lines) changed_are
+    ∙ ap (λ m. numbers_after start.numbered Answers said m lines) matches_are
+    ∙ ap (numbers_after start.numbered Answers said (start.numbered.matches + matches ds)) lines_are
   where
-    told_are : reported ≡ start.numbered.patches + changes (course.steps replies)
-    told_are = says.counted ∙ ap (λ l. start.numbered.patches + changes l) (sym (append-nil says.steps) ∙ ap (λ l. says.steps ++ l) (sym (steps-none course.version replies now.world none)) ∙ says.are)
+    said : Reported
+    said = reported_as (start.numbered.asks + asks ds) (has_change (course.steps replies))
+
+    changed_are : reported.changed ≡ has_change (course.steps replies)
+    changed_are = changed_by Answers course reported start now replies none refl says
+numbers_are Changes course ds reported matched lines start now replies none answered says matches_are lines_are =
+    ap (λ n. numbers_after start.numbered Changes (reported_as n false) matched lines) told_are ∙ ap (numbers_after start.numbered Changes (reported_as (start.numbered.patches + changes (course.steps replies)) false) matched) lines_are
+  where
+    told_are : reported.number ≡ start.numbered.patches + changes (course.steps replies)
+    told_are = says.counted ∙ ap (λ l. start.numbered.patches + changes l) (whole_steps course now replies says.steps none says.are)
 
 -- the deliveries were taken, and there may be more
 record Paused (run : Run) (closed : Bool) (numbers : Counts) (ds : List Delivery) (before now : Moment) : Type 0 where

@@ -1,5 +1,5 @@
 -- The remapped pages, one after the other, and what is told of them.
-use Rattle.std.proofs.Common.{◌≡◌, refl, sym, subst, ◌∙◌, ap, ℕ, ◌<◌, ◌≤◌, List, [], ◌∷◌, ◌++◌, length, append_assoc, append-nil, Ok, Err, arith}
+use Rattle.std.proofs.Common.{◌≡◌, refl, sym, subst, ◌∙◌, ap, ◌<◌, ◌≤◌, List, [], ◌∷◌, ◌++◌, length, append_assoc, append-nil, Ok, Err, arith}
 use Rattle.sorted_sets.specs.Rising.{IsRising}
 use Rattle.rdf_term.specs.Order.{triple_cmp}
 use Rattle.entity_model.specs.{declared.id.EntityId.EntityId, declared.mapping.MappingVersion.MappingVersion, EntityId.entity_cmp}
@@ -10,7 +10,7 @@ use Rattle.text_output.specs.declared.write.Unwritten.{Unwritten}
 use Rattle.text_output.specs.declared.write.Unwritten.TheVariants.{WriteFault, OutOfMemory}
 use Rattle.text_output.specs.Printing.{Output}
 use Rattle.patch_stream.specs.Stream.{Step, step, steps_anew, steps_remapped}
-use Rattle.run_model.specs.declared.report.Report.{Report}
+use Rattle.run_model.specs.{declared.report.Report.Report, declared.report.Reported.Reported}
 use Rattle.run_model.specs.declared.report.Report.TheVariants.{Answers, Changes}
 use Rattle.run_model.specs.declared.stop.Halt.TheVariants.{Unapplied as NotApplied, Unprinted}
 use Rattle.run_model.specs.Remapping.{IsLeftStale, mapped_in}
@@ -38,14 +38,14 @@ pages_first w rising some = by (stale w) refl some
         ∙ ap (λ o. Left (with_version_of w.mapping o w.by_two)) (sym (ap first_of is))
 
 -- some pages were remapped, and are told
-pub record RemapsTold (report : Report) (reported reported_now : ℕ) (version : MappingVersion) (old now : WorldState) (out_old out_now : Output) : Type 0 where
+pub record RemapsTold (report : Report) (reported reported_now : Reported) (version : MappingVersion) (old now : WorldState) (out_old out_now : Output) : Type 0 where
   pub remaps : Remaps version old now
   pub pages : List Step
   pub are : pages ++ steps_anew version old.replay.played.records now.by_two ≡ steps_anew version old.replay.played.records old.by_two
   pub tells : TellsBy report reported pages reported_now out_old out_now
 
 -- none yet
-pub told_none : (report : Report) (reported : ℕ) (version : MappingVersion) (old now : WorldState) (out : Output) → now ≡ record old { mapping = version } → Remaps version old now → RemapsTold report reported reported version old now out out
+pub told_none : (report : Report) (reported : Reported) (version : MappingVersion) (old now : WorldState) (out : Output) → now ≡ record old { mapping = version } → Remaps version old now → RemapsTold report reported reported version old now out out
 told_none report reported version old now out is remaps = record {
   remaps = remaps;
   pages = [];
@@ -53,7 +53,7 @@ told_none report reported version old now out is remaps = record {
   tells = tells_none report reported out;
 }
 
-module _ (report : Report) (reported between : ℕ) (version : MappingVersion) (old now new : WorldState) (out_old out_now out_new : Output) (so_far : RemapsTold report reported between version old now out_old out_now)
+module _ (report : Report) (reported between : Reported) (version : MappingVersion) (old now new : WorldState) (out_old out_now out_new : Output) (so_far : RemapsTold report reported between version old now out_old out_now)
     (is : new ≡ remapped now) (some : 0 < length (stale now)) where
   -- the step from one world to the next
   abbrev this : Step
@@ -71,7 +71,7 @@ module _ (report : Report) (reported between : ℕ) (version : MappingVersion) (
       ∙ so_far.are
 
   -- one more is told
-  pub told_next : (reported_now : ℕ) → Remaps version old new → TellsStepBy report between this out_now out_new (Ok reported_now) → RemapsTold report reported reported_now version old new out_old out_new
+  pub told_next : (reported_now : Reported) → Remaps version old new → TellsStepBy report between this out_now out_new (Ok reported_now) → RemapsTold report reported reported_now version old new out_old out_new
   told_next reported_now remaps tells = record {
     remaps = remaps;
     pages = so_far.pages ++ this ∷ [];
@@ -98,7 +98,7 @@ module _ (report : Report) (reported between : ℕ) (version : MappingVersion) (
   }
 
 -- the next one isn't remapped
-pub told_before : (report : Report) (why : StoreFault) (reported reported_now : ℕ) (version : MappingVersion) (old now new : WorldState) (out_old out_now : Output) → RemapsTold report reported reported_now version old now out_old out_now → new ≡ now →
+pub told_before : (report : Report) (why : StoreFault) (reported reported_now : Reported) (version : MappingVersion) (old now new : WorldState) (out_old out_now : Output) → RemapsTold report reported reported_now version old now out_old out_now → new ≡ now →
     IsLeftStale why old.limit old.replay.played.records (mapped_in new) → RemapsPages (NotApplied why) report old.limit reported version old.replay.played.records (mapped_in old) (mapped_in new) out_old out_now
 told_before report why reported reported_now version old now new out_old out_now so_far same left = record {
   left = left;
@@ -111,7 +111,7 @@ told_before report why reported reported_now version old now new out_old out_now
 }
 
 -- all of them are told
-pub told_all : (report : Report) (reported reported_now : ℕ) (version : MappingVersion) (old now : WorldState) (out_old out_now : Output) → RemapsTold report reported reported_now version old now out_old out_now → length (stale now) ≡ 0 →
+pub told_all : (report : Report) (reported reported_now : Reported) (version : MappingVersion) (old now : WorldState) (out_old out_now : Output) → RemapsTold report reported reported_now version old now out_old out_now → length (stale now) ≡ 0 →
     TellsBy report reported (steps_anew version old.replay.played.records old.by_two) reported_now out_old out_now
 told_all report reported reported_now version old now out_old out_now so_far none =
     subst (λ l. TellsBy report reported l reported_now out_old out_now) whole so_far.tells

@@ -67,6 +67,7 @@ module _ (environment : Environment) (closed : Bool) (sections : Sections) (ds :
       source = replay.played.source;
       source_says = says_there;
       source_roomed = replay.played.source_roomed;
+      source_changes = replay.played.source_changes;
       source_counted = replay.played.source_counted;
     };
     fates = replay.fates;

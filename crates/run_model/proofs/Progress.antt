@@ -22,12 +22,12 @@ use Rattle.text_output.proofs.Parts.{after_nothing}
 use Rattle.replica.specs.Record.{record_text}
 use Rattle.patch_stream.specs.Stream.{Step, changes, record_of_step, steps_anew}
 use Rattle.run_model.specs.Course.{answer_held, answer_text, course_after, course_begun, course_remapping, led_to, version_at, along, steps_of_delivery}
-use Rattle.run_model.specs.declared.report.Report.{Report}
+use Rattle.run_model.specs.{declared.report.Report.Report, declared.report.Reported.Reported}
 use Rattle.run_model.specs.{declared.report.Report.TheVariants.Answers, declared.report.Report.TheVariants.Changes, declared.stop.Halt.Halt}
 use Rattle.run_model.specs.declared.stop.Halt.TheVariants.{Unapplied as NotApplied, Unprinted}
 use Rattle.run_model.specs.{declared.stop.Stop.Stop, declared.lines_taken.LinesTaken.LinesTaken}
 use Rattle.run_model.specs.declared.stop.Stop.TheVariants.{BadLine, OutOfMemory}
-use Rattle.run_model.specs.Moment.{SourceCounts, no_numbers, Beginning, Moment, Run, Environment, Stage, onward, standing, start_in, start_of, with_mapped, with_output, is_mark, is_save_due, marks, numbers_after, snapshot_text, up_to_saves}
+use Rattle.run_model.specs.Moment.{SourceCounts, no_numbers, Beginning, Moment, Run, Environment, Stage, onward, standing, start_in, reported_as, start_of, with_mapped, with_output, is_mark, is_save_due, marks, numbers_after, snapshot_text, up_to_saves}
 use Rattle.run_model.specs.Headline.{IsPlayed, IsPlayedAfter, IsSnapshotBehind, KeepsOnTheWay, StandsAtPage, StandsAtQuestion, Stopped, StopsWithin}
 use Rattle.run_model.specs.Remapping.{HaveRoomBefore, needed_anew, IsLeftStale, Mapped, mapped_by, remapped_some}
 use Rattle.run_model.specs.{Reading.AreFirst, Reading.AreFirstAlone, Reading.HasRead, Reading.TakesByNeed, Report.HasReported}
@@ -48,13 +48,13 @@ use Rattle.run_model.proofs.Saves.{is_saved_behind, keeps_next, keeps_nothing, k
 use Rattle.run_model.proofs.Reading.{HasLimits, IsNextLine, all_read, as_many, bad_line, first_lines, first_with, nothing_first, nothing_read, nothing_taken_of, over_long, past_limit, read_more, takes_on, whole_read}
 
 -- where questions are answered, no more were since the run began than lines were read
-abbrev pub FewAnswers : Report → Counts → ℕ → ℕ → Type 0
-FewAnswers Answers numbered reported given = reported ≤ numbered.asks + given
+abbrev pub FewAnswers : Report → Counts → Reported → ℕ → Type 0
+FewAnswers Answers numbered reported given = reported.number ≤ numbered.asks + given
 FewAnswers Changes numbered reported given = Unit {0}
 
 -- the lines so far were read, the world has taken them, so many asks were answered or records written, and so many matches were delivered,
 -- with those of earlier runs
-pub record Progress (run : Run) (before now : Moment) (reader : Reading) (reported matched : ℕ) : Type 0 where
+pub record Progress (run : Run) (before now : Moment) (reader : Reading) (reported : Reported) (matched : ℕ) : Type 0 where
   pub deliveries : List Delivery
   pub read : HasRead before.input.left reader now.input.left deliveries
   pub taken : IfSome before.input.left (λ bytes. TakesByNeed (max_bytes_of run.choices) bytes now.input.left before.last_read now.last_read)
@@ -72,7 +72,12 @@ pub record Progress (run : Run) (before now : Moment) (reader : Reading) (report
 -- nothing is reported before the first delivery
 nothing_reported : (routes : Option (List Route)) (report : Report) (numbered : Counts) (s : Stage) (others : Replies) → first_due s.world.buffer ≡ None →
     HasReported report (course_after routes [] (start_in numbered s)) (reported_before report numbered) (start_in numbered s) s others
-nothing_reported routes Answers numbered s others none = sym (after_nothing s.output.bytes)
+nothing_reported routes Answers numbered s others none = record {
+  steps = [];
+  are = steps-none s.mapped.version others s.world none;
+  changed = refl;
+  bytes = sym (after_nothing s.output.bytes);
+}
 nothing_reported routes Changes numbered s others none = record {
   steps = [];
   are = steps-none s.mapped.version others s.world none;
@@ -89,7 +94,7 @@ no_answers Answers numbered given = omega arith
 no_answers Changes numbered given = tt
 
 -- and there is a number for one more
-pub numbers_left : (report : Report) (numbered : Counts) (reported matched : ℕ) (reader : Reading) {limit : ℕ} → numbered.asks ≤ 2 ^ 63 → numbered.matches ≤ 2 ^ 63 → FewAnswers report numbered reported reader.given →
+pub numbers_left : (report : Report) (numbered : Counts) (reported : Reported) (matched : ℕ) (reader : Reading) {limit : ℕ} → numbered.asks ≤ 2 ^ 63 → numbered.matches ≤ 2 ^ 63 → FewAnswers report numbered reported reader.given →
     matched ≤ numbered.matches + reader.given → IsSound reader → HasLimits limit reader → limit ≤ 2 ^ 40 → HasNumberLeft report reported matched
 numbers_left Answers numbered reported matched reader few_asks few_matches few few_matched sound limits bounded =
     (omega (arith, few_asks, few, sound.counted, sound.bounded, sound.within, limits.bytes, bounded), omega (arith, few_matches, few_matched, sound.counted, sound.bounded, sound.within, limits.bytes, bounded))
@@ -193,7 +198,7 @@ starved_at_once run before stands =
     } in
     inl (inl (inl (inl stops)))
 
-module _ (run : Run) (before now : Moment) (reader : Reading) (reported matched : ℕ) (so_far : Progress run before now reader reported matched) where
+module _ (run : Run) (before now : Moment) (reader : Reading) (reported : Reported) (matched : ℕ) (so_far : Progress run before now reader reported matched) where
   played : IsPlayedAfter run.environment so_far.deliveries (start_of run before) now.stage
   played = is_played run.environment (course_after run.environment.routes so_far.deliveries (start_of run before)) reported (start_of run before) now.stage so_far.at_rest.leads so_far.at_rest.rests so_far.at_rest.mapped
 
@@ -252,7 +257,7 @@ module _ (run : Run) (before now : Moment) (reader : Reading) (reported matched 
     deliveries = so_far.deliveries;
     read = read;
     are = all_read (max_bytes_of run.choices) reader now.input.left so_far.deliveries so_far.max so_far.sound before.input.left so_far.read at_end;
-    at_rest = subst (λ n. AtRest run.environment so_far.deliveries n (start_of run before) now.stage) (sym same_reported) so_far.at_rest;
+    at_rest = subst (λ (r : Reported). AtRest run.environment so_far.deliveries r (start_of run before) now.stage) (sym same_reported) so_far.at_rest;
     matched_are = same_matched ∙ so_far.counted;
     lines_are = counted ∙ ap (λ n. run.numbered.lines + n) as_many_taken;
     kept = so_far.kept;
@@ -356,12 +361,12 @@ module _ (run : Run) (before now : Moment) (reader : Reading) (reported matched 
           records = after.stage.world.played.records
 
           -- the play of the deliveries, and of pages behind them that are told, of which these are all records
-          Played : List Step → ℕ → Output → SourceCounts → ReplayState → Type 0
+          Played : List Step → Reported → Output → SourceCounts → ReplayState → Type 0
           Played pages n out c w =
               (p : IsPlayed run.environment (course_remapping run.environment.routes pages so_far.deliveries (start_of run before)) (start_of run before) (record { output = out; counts = c; world = w; mapped = mapped_by v w.played.records }))
-              × (run.environment.report ≡ Changes → n ≡ run.numbered.patches + changes (along steps_of_delivery p.replies (standing (start_of run before)) so_far.deliveries ++ pages))
+              × (run.environment.report ≡ Changes → n.number ≡ run.numbered.patches + changes (along steps_of_delivery p.replies (standing (start_of run before)) so_far.deliveries ++ pages))
 
-          played_with : (pages : List Step) (n : ℕ) (out : Output) → TellsBy run.environment.report reported pages n now.stage.output out → Played pages n out after.stage.counts after.stage.world
+          played_with : (pages : List Step) (n : Reported) (out : Output) → TellsBy run.environment.report reported pages n now.stage.output out → Played pages n out after.stage.counts after.stage.world
           played_with pages n out tells =
               subst (λ c. Played pages n out c after.stage.world) (sym in_part.counts)
               (subst (λ w. Played pages n out now.stage.counts w) (sym in_part.world) (
@@ -403,8 +408,8 @@ module _ (run : Run) (before now : Moment) (reader : Reading) (reported matched 
               pages ++ steps_anew in_part.version now.stage.world.played.records after.stage.mapped.by_two ≡ steps_anew in_part.version now.stage.world.played.records now.stage.mapped.by_two → StandsAtPage why run before after
           unprinted Answers same why pages others last split never x are = absurd never
           unprinted Changes same why pages others last split broken x are =
-              let tells = subst (λ report. TellsBy report reported others broken.told_then now.stage.output broken.between) same broken.tells in
-              let p = played_with others broken.told_then broken.between tells in
+              let tells = subst (λ report. TellsBy report reported others (reported_as broken.told_then false) now.stage.output broken.between) same broken.tells in
+              let p = played_with others (reported_as broken.told_then false) broken.between tells in
               record {
                 changes_reported = sym same;
                 deliveries = so_far.deliveries;
@@ -451,7 +456,7 @@ module _ (run : Run) (before now : Moment) (reader : Reading) (reported matched 
           cut
 
       -- a line that is taken, behind which the snapshot is kept, if a save follows it
-      module _ (reported_now : ℕ) (takes : TakesDelivery run.environment (turn reported matched d) reported_now now.stage after.stage) where
+      module _ (reported_now : Reported) (takes : TakesDelivery run.environment (turn reported matched d) reported_now now.stage after.stage) where
         pub rests_then : AtRest run.environment (so_far.deliveries ++ d ∷ []) reported_now (start_of run before) after.stage
         rests_then = takes so_far.deliveries (start_of run before) so_far.counted so_far.at_rest
 

@@ -19,7 +19,7 @@ use Rattle.text_output.specs.declared.write.Unwritten.{Unwritten}
 use Rattle.text_output.specs.declared.write.Unwritten.TheVariants.{WriteFault as NotWritten, OutOfMemory as UnwrittenOutOfMemory}
 use Rattle.text_output.specs.Printing.{IsCutShort, Output}
 use Rattle.replica.specs.Record.{record_text}
-use Rattle.patch_stream.specs.Stream.{Step, changes, is_change, record_of_step, steps_anew}
+use Rattle.patch_stream.specs.Stream.{Step, changes, has_change, is_change, record_of_step, steps_anew}
 use Rattle.snapshot.specs.declared.counts.Counts.{Counts}
 use Rattle.arguments.specs.Options.{closes, max_bytes_of}
 use Rattle.run_model.specs.declared.report.Report.TheVariants.{Answers, Changes}
@@ -60,6 +60,8 @@ pub record IsPlayed (environment : Environment) (course : Course) (start : Begin
   pub source : (contents : ℕ → Option Bytes) → environment.known ≡ Some contents → now.world ≡ course.state (replies_there contents now.world)
   pub source_says : (contents : ℕ → Option Bytes) → environment.known ≡ Some contents → now.output.bytes ≡ bytes_of environment.report course start (replies_there contents now.world)
   pub source_roomed : (contents : ℕ → Option Bytes) → environment.known ≡ Some contents → HaveRoom environment.limit (course.needed (replies_there contents now.world))
+  pub source_changes : (contents : ℕ → Option Bytes) → environment.known ≡ Some contents → environment.report ≡ Answers →
+      has_change (course.steps (replies_there contents now.world)) ≡ has_change (course.steps replies)
   pub source_counted : (contents : ℕ → Option Bytes) → environment.known ≡ Some contents →
       HasCounted start.counts now.counts start.world.played.side (length (course.fetched (replies_there contents now.world))) now.world.played.side
 

@@ -12,7 +12,7 @@ use Rattle.text_output.specs.Printing.{Output, output}
 use Rattle.checkpoint.specs.{Archive.Archive, Archive.archive, Keeping.with_snapshot, declared.snapshots.Snapshots.Ghosts as SnapshotsOf}
 use Rattle.following.specs.Input.{Input, input}
 use Rattle.snapshot.specs.{declared.counts.Counts.Counts, File.file_text, Whole.Saved}
-use Rattle.run_model.specs.{declared.ports.Ports.Ports, declared.report.Report.Report, Remapping.Mapped, Remapping.mapped_in}
+use Rattle.run_model.specs.{declared.ports.Ports.Ports, declared.report.Report.Report, declared.report.Reported.Reported, Remapping.Mapped, Remapping.mapped_in}
 use Rattle.run_model.specs.declared.stop.Halt.{Halt}
 use Rattle.run_model.specs.declared.stop.Halt.TheVariants.{Unapplied as NotApplied, Unprinted}
 use Rattle.run_model.specs.declared.report.Report.TheVariants.{Answers, Changes}
@@ -23,7 +23,7 @@ use Rattle.term_pool.specs.declared.fault.PoolFault.{PoolFault as StoreFault}
 use Rattle.term_pool.specs.declared.fault.PoolFault.TheVariants.{Full, OutOfMemory}
 use Rattle.delivery.specs.declared.Delivery.{Delivery}
 use Rattle.delivery.specs.declared.Delivery.TheVariants.{Event as Told, Watermark, Ask, Mapping, Match}
-use Rattle.patch_stream.specs.Stream.{Step, changes}
+use Rattle.patch_stream.specs.Stream.{Step, changes, has_change}
 
 -- how many calls a source of revisions had, how many of them found nothing, and how many failed
 pub record SourceCounts : Type 0 where
@@ -219,17 +219,23 @@ sections_of c = record { export = c.export; state = c.state; side = c.side }
 
 -- ---- what is saved
 
--- the counts that a later run goes on with, where earlier runs left these, so many asks were answered or records written, so many matches
--- were delivered, and so many lines were taken
-abbrev pub numbers_after : Counts → Report → ℕ → ℕ → ℕ → Counts
-numbers_after earlier Answers reported matched lines = record { asks = reported; matches = matched; patches = earlier.patches; lines = lines }
-numbers_after earlier Changes reported matched lines = record { asks = earlier.asks; matches = earlier.matches; patches = reported; lines = lines }
+-- so many asks were answered or records written; and where questions are answered, a step changed what is stored, or none did
+abbrev pub reported_as : ℕ → Bool → Reported
+reported_as number changed = record { number = number; changed = changed }
 
--- how many questions were answered, with these deliveries and those of earlier runs, or how many records of changes were written, with
--- those of these steps; and how many lines were taken, each of which is a delivery
+-- the counts that a later run goes on with, where earlier runs left these, this was reported, so many matches were delivered, and so many
+-- lines were taken. Where questions are answered and what is stored changed, the next number of records is passed over: no record tells of
+-- these changes, so the number is missing in every stream
+abbrev pub numbers_after : Counts → Report → Reported → ℕ → ℕ → Counts
+numbers_after earlier Answers reported matched lines = record { asks = reported.number; matches = matched; patches = cond reported.changed (earlier.patches + 1) earlier.patches; lines = lines }
+numbers_after earlier Changes reported matched lines = record { asks = earlier.asks; matches = earlier.matches; patches = reported.number; lines = lines }
+
+-- how many questions were answered, with these deliveries and those of earlier runs, and one number of records passed over if one of these
+-- steps changed what is stored; or how many records of changes were written, with those of these steps; and how many lines were taken, each
+-- of which is a delivery
 abbrev pub numbers_of : Report → (Replies → List Step) → List Delivery → Beginning → Replies → Counts
-numbers_of Answers steps ds start replies = numbers_after start.numbered Answers (start.numbered.asks + asks ds) (start.numbered.matches + matches ds) (start.numbered.lines + length ds)
-numbers_of Changes steps ds start replies = numbers_after start.numbered Changes (start.numbered.patches + changes (steps replies)) start.numbered.matches (start.numbered.lines + length ds)
+numbers_of Answers steps ds start replies = numbers_after start.numbered Answers (reported_as (start.numbered.asks + asks ds) (has_change (steps replies))) (start.numbered.matches + matches ds) (start.numbered.lines + length ds)
+numbers_of Changes steps ds start replies = numbers_after start.numbered Changes (reported_as (start.numbered.patches + changes (steps replies)) false) start.numbered.matches (start.numbered.lines + length ds)
 
 -- what is saved of a stage with these counts
 abbrev pub saved_at : Stage → Counts → Saved

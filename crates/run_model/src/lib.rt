@@ -14,6 +14,6 @@ mod stop;
 
 pub use lines_taken::{LinesTaken, is_mark};
 pub use ports::Ports;
-pub use report::Report;
+pub use report::{Report, Reported};
 pub use status::{Status, status_number, status_text};
 pub use stop::{Halt, Stop};

@@ -4,15 +4,15 @@ ghost use Rattle.std.specs.Prelude.{◌≡◌, ◌-◌, ◌^◌, ◌<◌, ◌∷
 ghost use Rattle.replay_model.specs.Transcript.{matches};
 ghost use Rattle.run_model.specs.{Delivering.taken_before, Delivering.taken_with, Moment.is_mark, Moment.marks};
 
-use crate::report::Report;
+use crate::report::{Report, Reported};
 use delivery::Delivery;
 use snapshot::Counts;
 
-/// What was taken of an input: how many asks were answered or records written, how many matches were delivered, and how many lines taken,
-/// with those of earlier runs; and how many watermarks this run took.
+/// What was taken of an input: what was reported of it, how many matches were delivered, and how many lines taken, with those of earlier
+/// runs; and how many watermarks this run took.
 #[derive(Clone, Copy)]
 pub struct LinesTaken {
-    pub reported: u64,
+    pub reported: Reported,
     pub matched: u64,
     pub lines: u64,
     pub marks: u64,

@@ -1,5 +1,5 @@
 -- What follows from the taking of a delivery, and of the end, for a drill: its pages are told, and no fetch of them fails.
-use Rattle.std.proofs.Common.{◌≡◌, ◌∙◌, refl, sym, ap, subst, inl, inr, ⊎_elim, ◌⊎◌, ℕ, ◌-◌, ◌^◌, ◌<◌, ◌≤◌, ◌+◌, arith, List, [], ◌∷◌, ◌++◌, append_assoc, append-nil, length, length-append, filter_map, Option, None, Some}
+use Rattle.std.proofs.Common.{◌≡◌, ◌∙◌, false, refl, sym, ap, subst, inl, inr, ⊎_elim, ◌⊎◌, ℕ, ◌-◌, ◌^◌, ◌<◌, ◌≤◌, ◌+◌, arith, List, [], ◌∷◌, ◌++◌, append_assoc, append-nil, length, length-append, filter_map, Option, None, Some}
 use Rattle.std.proofs.lemmas.List.Elements.{filter_map-append}
 use Rattle.delivery.specs.declared.Delivery.{Delivery}
 use Rattle.delivery.specs.declared.Delivery.TheVariants.{Event as Told, Watermark, Ask, Mapping, Match}
@@ -22,9 +22,9 @@ use Rattle.drill_replay.proofs.Drills.{rest_of}
 use Rattle.session.specs.declared.drill_playing.DrillRun.{DrillRun}
 use Rattle.session.specs.DrillPlaying.{HasTakenFirst, LeavesDrill, drill_environment, drill_stage, told_of}
 use Rattle.run_model.specs.{declared.stop.Stop.Stop, declared.stop.Stop.TheVariants.OutOfMemory as StopOutOfMemory}
-use Rattle.run_model.specs.{declared.report.Report.TheVariants.Answers, declared.stop.Halt.Halt}
+use Rattle.run_model.specs.{declared.report.Report.TheVariants.Answers, declared.report.Reported.Reported, declared.stop.Halt.Halt}
 use Rattle.run_model.specs.declared.stop.Halt.TheVariants.{Unapplied as NotApplied, Unprinted}
-use Rattle.run_model.specs.Moment.{HasCountedAt, RoseBy, no_numbers, Beginning, IsFirst, Stage, environment, start_in, with_world}
+use Rattle.run_model.specs.Moment.{HasCountedAt, RoseBy, no_numbers, Beginning, IsFirst, Stage, environment, reported_as, start_in, with_world}
 use Rattle.run_model.specs.Course.{Course, course_after, course_begun, course_to_end, led_to, version_at}
 use Rattle.run_model.specs.Remapping.{HasNoRoom, KeepsVersion, Mapped, mapped_by, mapped_in}
 use Rattle.run_model.specs.{Stop.stop_of_halt, Taking.IsFull, Taking.IsWithin, Taking.judgement, Taking.replies_there}
@@ -34,6 +34,7 @@ use Rattle.term_pool.specs.declared.fault.PoolFault.TheVariants.{Full, OutOfMemo
 use Rattle.run_model.proofs.{Along.asks-push, Along.matches-push, Deliveries.end_begun, Deliveries.end_taken}
 use Rattle.run_model.proofs.Ends.{is_played, none_named_first}
 use Rattle.run_model.proofs.{FromNothing.ended_first, FromNothing.led_first, FromNothing.version_first, Progress.nothing_taken}
+use Rattle.rdf_term.specs.Limits.{default_max_terms}
 
 -- ---- where the world is
 
@@ -52,16 +53,16 @@ module _ (size : ℕ) (start : Beginning) (now : Stage) (nothing : IsFirst start
   replies_are none = ap (source_replies judgement (contents_of size)) none
 
   -- where no event is due, it is where its play is
-  course_is : (course : Course) (reported : ℕ) → Leads (drill_environment size) course reported start now → first_due now.world.buffer ≡ None → now.mapped ≡ mapped_by course.version now.world.played.records → now.world ≡ course.state (replies_of size)
+  course_is : (course : Course) (reported : Reported) → Leads (drill_environment size) course reported start now → first_due now.world.buffer ≡ None → now.mapped ≡ mapped_by course.version now.world.played.records → now.world ≡ course.state (replies_of size)
   course_is course reported leads rests mapped =
       let play = is_played (drill_environment size) course reported start now leads rests mapped in
       play.source (contents_of size) refl ∙ ap course.state (replies_are (none_failed _ _ _ _ play.counted.failed none_named still))
 
-  pub after_is : (ds : List Delivery) → AtRest (drill_environment size) ds 0 start now → now.world ≡ following None (replies_of size) ds
-  after_is ds at_rest =
-      course_is (course_after None ds start) 0 at_rest.leads at_rest.rests at_rest.mapped ∙ led_first start nothing.0 (replies_of size) ds ∙ ap (λ (w : ReplayState). following w.buffer.horizon (replies_of size) ds) nothing.1
+  pub after_is : (ds : List Delivery) (reported : Reported) → AtRest (drill_environment size) ds reported start now → now.world ≡ following None (replies_of size) ds
+  after_is ds reported at_rest =
+      course_is (course_after None ds start) reported at_rest.leads at_rest.rests at_rest.mapped ∙ led_first start nothing.0 (replies_of size) ds ∙ ap (λ (w : ReplayState). following w.buffer.horizon (replies_of size) ds) nothing.1
 
-  pub end_is : (ds : List Delivery) (reported : ℕ) → AtEnd (drill_environment size) ds reported start now → now.world ≡ following_to_end None (replies_of size) ds
+  pub end_is : (ds : List Delivery) (reported : Reported) → AtEnd (drill_environment size) ds reported start now → now.world ≡ following_to_end None (replies_of size) ds
   end_is ds reported at_end =
       course_is (course_to_end None ds start) reported at_end.leads at_end.rests at_end.mapped ∙ ended_first start nothing.0 (replies_of size) ds ∙ ap (λ (w : ReplayState). following_to_end w.buffer.horizon (replies_of size) ds) nothing.1
 
@@ -82,8 +83,8 @@ led_nothing size ds start first nothing = led_first start first (replies_of size
 -- there is room for each page that is due
 full_never : (size : ℕ) (world : ReplayState) (mapped : Mapped) → IsSize size → HasBegun size world → mapped ≡ mapped_by One world.played.records → IsFull (drill_environment size) world mapped → ⊥
 full_never size world mapped is_size begun is full =
-    never_over size 20000000 world full.event full.bytes is_size begun (omega arith) full.due full.fetches (full.there (contents_of size) refl)
-    (subst (λ m. HasNoRoom 20000000 world.played.records m full.event.entity (revision_wanted world full.event) full.bytes) is full.over)
+    never_over size default_max_terms world full.event full.bytes is_size begun (omega arith) full.due full.fetches (full.there (contents_of size) refl)
+    (subst (λ m. HasNoRoom default_max_terms world.played.records m full.event.entity (revision_wanted world full.event) full.bytes) is full.over)
 
 -- ---- one delivery of a drill
 
@@ -149,18 +150,18 @@ module _ (run : DrillRun) (ds after : List Delivery) (d : Delivery) (all : drill
     before = drill_stage run.pages out world
 
     stands : world.replay ≡ following None (replies_of run.size) ds
-    stands = after_is run.size taken.start before (taken.first, taken.nothing) refl ds taken.at_rest
+    stands = after_is run.size taken.start before (taken.first, taken.nothing) refl ds (reported_as 0 run.changed) taken.at_rest
 
     -- it is taken and counted
-    pub next_taken : (pages_now : Source) (counts_now : DrillCounts) (answer : Option Taken) (reported_now : ℕ) (out_now : Output) (world_now : WorldState) → told_of pages_now.size ≡ told_of run.pages.size →
-        TakesDelivery (environment None Answers (told_of run.pages.size) folder world.limit) (turn 0 0 d) reported_now before (drill_stage pages_now out_now world_now) → answer ≡ answer_of world.replay.buffer d → counts_now ≡ with_answer answer run.counts →
-        world_now.limit ≡ world.limit → HasTakenFirst (record run { pages = pages_now; counts = counts_now }) (ds ++ d ∷ []) out_now world_now
+    pub next_taken : (pages_now : Source) (counts_now : DrillCounts) (answer : Option Taken) (reported_now : Reported) (out_now : Output) (world_now : WorldState) → told_of pages_now.size ≡ told_of run.pages.size →
+        TakesDelivery (environment None Answers (told_of run.pages.size) folder world.limit) (turn (reported_as 0 run.changed) 0 d) reported_now before (drill_stage pages_now out_now world_now) → answer ≡ answer_of world.replay.buffer d → counts_now ≡ with_answer answer run.counts →
+        world_now.limit ≡ world.limit → HasTakenFirst (record run { pages = pages_now; counts = counts_now; changed = reported_now.changed }) (ds ++ d ∷ []) out_now world_now
     next_taken pages_now counts_now answer reported_now out_now world_now told takes answered counted limit = record {
       start = taken.start;
       first = taken.first;
       nothing = taken.nothing;
       told = told ∙ taken.told;
-      at_rest = still_none (subst (λ s. TakesDelivery s (turn 0 0 d) reported_now before (drill_stage pages_now out_now world_now)) environment_is takes ds taken.start (none_matched taken.start taken.first) taken.at_rest);
+      at_rest = still_none (subst (λ s. TakesDelivery s (turn (reported_as 0 run.changed) 0 d) reported_now before (drill_stage pages_now out_now world_now)) environment_is takes ds taken.start (none_matched taken.start taken.first) taken.at_rest);
       counted = subst (λ c. Counted (ds ++ d ∷ []) c)
           (sym (counted ∙ ap (λ (a : Option Taken). with_answer a run.counts) (answered ∙ ap (λ (w : ReplayState). answer_of w.buffer d) stands)))
           (counted-next (replies_of run.size) ds d run.counts taken.counted);
@@ -168,10 +169,10 @@ module _ (run : DrillRun) (ds after : List Delivery) (d : Delivery) (all : drill
     }
       where
         -- nothing is answered
-        still_none : AtRest (drill_environment run.size) (ds ++ d ∷ []) reported_now taken.start (drill_stage pages_now out_now world_now) → AtRest (drill_environment run.size) (ds ++ d ∷ []) 0 taken.start (drill_stage pages_now out_now world_now)
+        still_none : AtRest (drill_environment run.size) (ds ++ d ∷ []) reported_now taken.start (drill_stage pages_now out_now world_now) → AtRest (drill_environment run.size) (ds ++ d ∷ []) (reported_as 0 reported_now.changed) taken.start (drill_stage pages_now out_now world_now)
         still_none at_rest =
-            let none : reported_now ≡ 0 = omega (arith, at_rest.answered, ap (λ (n : Counts). n.asks) taken.first.numbered, asks_none) in
-            subst (λ n. AtRest (drill_environment run.size) (ds ++ d ∷ []) n taken.start (drill_stage pages_now out_now world_now)) none at_rest
+            let none : reported_now.number ≡ 0 = omega (arith, at_rest.answered, ap (λ (n : Counts). n.asks) taken.first.numbered, asks_none) in
+            subst (λ n. AtRest (drill_environment run.size) (ds ++ d ∷ []) (reported_as n reported_now.changed) taken.start (drill_stage pages_now out_now world_now)) none at_rest
 
     module _ (pages_now : Source) (out_now : Output) (world_now : WorldState) where
       abbrev pub now : Stage
@@ -192,7 +193,7 @@ module _ (run : DrillRun) (ds after : List Delivery) (d : Delivery) (all : drill
           (λ some. inr (record { before = ds; last = d; after = after; all = all; steps = some.0; is = some.1 }))
           at)
 
-      starves : IsSize run.size → (stop : Stop) (halt : Halt) → stop ≡ stop_of_halt halt → TakesInPart halt (drill_environment run.size) (turn 0 0 d) before now → IsDrillHalted run.size ds d stop world_now
+      starves : IsSize run.size → (stop : Stop) (halt : Halt) → stop ≡ stop_of_halt halt → TakesInPart halt (drill_environment run.size) (turn (reported_as 0 run.changed) 0 d) before now → IsDrillHalted run.size ds d stop world_now
       starves is_size stop halt is x = record {
         refused = is ∙ by halt x.held_up (x.world ds taken.start taken.at_rest);
         at = at;
@@ -212,13 +213,13 @@ module _ (run : DrillRun) (ds after : List Delivery) (d : Delivery) (all : drill
           by (Unprinted why) held_up part = absurd (⊎_elim (λ never. never) (λ within. within.says) part)
 
       -- it isn't taken wholly
-      pub cut_off : IsSize run.size → (stop : Stop) → CutsOff stop (environment None Answers (told_of run.pages.size) folder world.limit) (turn 0 0 d) before now → IsDrillHalted run.size ds d stop world_now
+      pub cut_off : IsSize run.size → (stop : Stop) → CutsOff stop (environment None Answers (told_of run.pages.size) folder world.limit) (turn (reported_as 0 run.changed) 0 d) before now → IsDrillHalted run.size ds d stop world_now
       cut_off is_size stop cuts = ⊎_elim
           (λ printing. absurd (no_question printing.2.question printing.2.is))
           (⊎_elim
           (λ starving. starves is_size stop starving.0 starving.1 starving.2)
           (λ remapping. absurd (no_mapping remapping.2.version remapping.2.is)))
-          (subst (λ s. CutsOff stop s (turn 0 0 d) before now) environment_is cuts)
+          (subst (λ s. CutsOff stop s (turn (reported_as 0 run.changed) 0 d) before now) environment_is cuts)
 
 -- a drill that halted has come to a part of any deliveries of which those are the first
 pub halted_in : (size : ℕ) (ds rest whole : List Delivery) (d : Delivery) (stop : Stop) (world : WorldState) → whole ≡ ds ++ d ∷ rest → IsDrillHalted size ds d stop world → IsPartOf size whole world.replay
@@ -233,11 +234,11 @@ part_at_rest run ds out world taken = inl (record {
   before = ds;
   after = [];
   all = sym (append-nil ds);
-  is = after_is run.size taken.start (drill_stage run.pages out world) (taken.first, taken.nothing) refl ds taken.at_rest;
+  is = after_is run.size taken.start (drill_stage run.pages out world) (taken.first, taken.nothing) refl ds (reported_as 0 run.changed) taken.at_rest;
 })
 
 -- what it leaves
-pub leaves_halted : (size : ℕ) (ds : List Delivery) (d : Delivery) (stop : Stop) (world world_now : WorldState) → IsDrillHalted size ds d stop world_now → world.limit ≡ 20000000 → world_now.limit ≡ world.limit → LeavesDrill world_now
+pub leaves_halted : (size : ℕ) (ds : List Delivery) (d : Delivery) (stop : Stop) (world world_now : WorldState) → IsDrillHalted size ds d stop world_now → world.limit ≡ default_max_terms → world_now.limit ≡ world.limit → LeavesDrill world_now
 leaves_halted size ds d stop world world_now halted limit same = record {
   first = halted.first;
   limit = same ∙ limit;
@@ -251,14 +252,14 @@ leaves_at_rest run ds after out world all taken = record {
 }
 
 -- before the first delivery
-pub starts : (run : DrillRun) (out : Output) (world : WorldState) → told_of run.pages.size ≡ told_of run.size → run.counts ≡ record { deliveries = 0; accepted = 0; late = 0 } → world.replay ≡ nothing_delivered → IsByFirst world →
-    world.limit ≡ 20000000 → HasTakenFirst run (drill 0) out world
-starts run out world told zero is first limit = record {
+pub starts : (run : DrillRun) (out : Output) (world : WorldState) → told_of run.pages.size ≡ told_of run.size → run.counts ≡ record { deliveries = 0; accepted = 0; late = 0 } → run.changed ≡ false → world.replay ≡ nothing_delivered → IsByFirst world →
+    world.limit ≡ default_max_terms → HasTakenFirst run (drill 0) out world
+starts run out world told zero unchanged is first limit = record {
   start = start_in no_numbers (drill_stage run.pages out world);
   first = record { world = is ∙ ap (λ (w : ReplayState). nothing_delivered_within w.buffer.horizon) (sym is); mapping = first.0; numbered = refl };
   nothing = is;
   told = told;
-  at_rest = rw (is, first.0, first.1) (nothing_taken (drill_environment run.size) None out _);
+  at_rest = rw (is, first.0, first.1, unchanged) (nothing_taken (drill_environment run.size) None out _);
   counted = rw zero (record { deliveries = refl; accepted = refl; late = refl });
   limit = limit;
 }
@@ -310,21 +311,21 @@ module _ (run : DrillRun) (folder : List ℕ) (out : Output) (world : WorldState
   }
 
   -- all was applied
-  pub end_reached : (reported_now : ℕ) → AppliesDue (environment None Answers (told_of run.pages.size) folder world.limit) 0 reported_now (with_world stage_before (after_end world.replay)) stage_now →
+  pub end_reached : (reported_now : Reported) → AppliesDue (environment None Answers (told_of run.pages.size) folder world.limit) (reported_as 0 run.changed) reported_now (with_world stage_before (after_end world.replay)) stage_now →
       KeepsVersion (mapped_in world) (mapped_in world_now) world.replay.played.records world_now.replay.played.records → out.faults ≤ out_now.faults → world_now.replay ≡ drilled run.size
   end_reached reported_now applies keeps more =
       end_is run.size taken.start stage_now (taken.first, taken.nothing) refl (drill run.size) reported_now
-      (end_taken (drill_environment run.size) (drill run.size) taken.start stage_before stage_now 0 reported_now
-      (subst (λ s. AppliesDue s 0 reported_now (with_world stage_before (after_end world.replay)) stage_now) environment_at_end applies) keeps more taken.at_rest)
+      (end_taken (drill_environment run.size) (drill run.size) taken.start stage_before stage_now (reported_as 0 run.changed) reported_now
+      (subst (λ s. AppliesDue s (reported_as 0 run.changed) reported_now (with_world stage_before (after_end world.replay)) stage_now) environment_at_end applies) keeps more taken.at_rest)
 
-  end_within : (halt : Halt) → StaysWithin halt (environment None Answers (told_of run.pages.size) folder world.limit) 0 (with_world stage_before (after_end world.replay)) stage_now →
+  end_within : (halt : Halt) → StaysWithin halt (environment None Answers (told_of run.pages.size) folder world.limit) (reported_as 0 run.changed) (with_world stage_before (after_end world.replay)) stage_now →
       IsWithin halt (drill_environment run.size) (course_to_end None (drill run.size) taken.start) (λ replies. after_end (led_to (drill run.size) taken.start replies)) taken.start stage_now
   end_within halt stays =
-      end_begun (drill_environment run.size) (drill run.size) taken.start halt stage_before stage_now 0
-      (subst (λ s. StaysWithin halt s 0 (with_world stage_before (after_end world.replay)) stage_now) environment_at_end stays) taken.at_rest
+      end_begun (drill_environment run.size) (drill run.size) taken.start halt stage_before stage_now (reported_as 0 run.changed)
+      (subst (λ s. StaysWithin halt s (reported_as 0 run.changed) (with_world stage_before (after_end world.replay)) stage_now) environment_at_end stays) taken.at_rest
 
   -- not all was applied
-  pub end_halted : (halt : Halt) → StaysWithin halt (environment None Answers (told_of run.pages.size) folder world.limit) 0 (with_world stage_before (after_end world.replay)) stage_now → StandsAtEnd run.size world_now.replay
+  pub end_halted : (halt : Halt) → StaysWithin halt (environment None Answers (told_of run.pages.size) folder world.limit) (reported_as 0 run.changed) (with_world stage_before (after_end world.replay)) stage_now → StandsAtEnd run.size world_now.replay
   end_halted halt stays =
       let within = end_within halt stays in
       record {
@@ -334,7 +335,7 @@ module _ (run : DrillRun) (folder : List ℕ) (out : Output) (world : WorldState
       }
 
   -- only with OutOfMemory
-  pub end_starved : IsSize run.size → (halt : Halt) → StaysWithin halt (environment None Answers (told_of run.pages.size) folder world.limit) 0 (with_world stage_before (after_end world.replay)) stage_now →
+  pub end_starved : IsSize run.size → (halt : Halt) → StaysWithin halt (environment None Answers (told_of run.pages.size) folder world.limit) (reported_as 0 run.changed) (with_world stage_before (after_end world.replay)) stage_now →
       KeepsVersion (mapped_in world) (mapped_in world_now) world.replay.played.records world_now.replay.played.records → IsHeldUp halt (environment None Answers (told_of run.pages.size) folder world.limit) out stage_now → halt ≡ NotApplied OutOfMemory
   end_starved is_size (NotApplied OutOfMemory) stays keeps held_up = refl
   end_starved is_size (NotApplied Full) stays keeps full =

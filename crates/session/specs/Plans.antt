@@ -23,6 +23,7 @@ use Rattle.text_output.specs.Printing.{IsCutShort, Output}
 use Rattle.drill_replay.specs.{Playing.HasBegun, Playing.IsByFirst, Summary.drilled, Summary.summary_lines, Summary.summary_of}
 use Rattle.following.specs.{declared.stop.FollowStop.FollowStop, Following.Ending, Following.FollowMoment, Following.StoppedFollowing, Following.follow_moment}
 use Rattle.following.specs.Reading.{TakesLinesByNeed}
+use Rattle.rdf_term.specs.Limits.{default_max_terms}
 
 -- a plan is a split by a text that has no routes
 pub record IsWithoutRoutes (plan : Plan) : Type 0 where
@@ -59,8 +60,8 @@ IsRunOf (Follow choices) contents run = ⊥
 abbrev pub limit_of_plan : Plan → ℕ
 limit_of_plan (Replay choices) = max_terms_of choices
 limit_of_plan (Patches choices) = max_terms_of choices
-limit_of_plan (Drill size) = 20000000
-limit_of_plan (Follow choices) = 20000000
+limit_of_plan (Drill size) = default_max_terms
+limit_of_plan (Follow choices) = default_max_terms
 limit_of_plan (Split choices) = max_terms_of choices.replay
 
 -- a run with this plan and status may have kept or begun a snapshot
@@ -133,7 +134,7 @@ pub record PlanEnding {S R K F : Type 0} (events : SourceOf S) (source : Revisio
   pub drill : (size : ℕ) → plan ≡ Drill size → DrillEnding status size (stage source sink old.revisions old.out world) (stage source sink new.revisions new.out now) × IsByFirst now × (new ≡ record old { out = new.out })
   pub follow : (choices : FollowChoices) → plan ≡ Follow choices →
       FollowEnding status choices (follow_moment events sink old.events old.out) (follow_moment events sink new.events new.out)
-      × (new ≡ record old { events = new.events; out = new.out }) × (now ≡ record world { limit = 20000000 })
+      × (new ≡ record old { events = new.events; out = new.out }) × (now ≡ record world { limit = default_max_terms })
   pub limit : (status ≡ BadWords) ⊎ ((now.limit ≡ limit_of_plan plan) × HoldsWithin (limit_of_plan plan) now)
   pub unsaved : MaySave plan status ⊎ (new.snapshot ≡ old.snapshot)
   pub further : HaveGoneOn events source sink file old new
@@ -144,6 +145,6 @@ pub record IsUnbegun (plan : Plan) (world now : WorldState) : Type 0 where
   pub resumed : (contents : Option Contents) (run : Run) → IsRunOf plan contents run → IsSome run.choices.resume → now ≡ record world { limit = max_terms_of run.choices }
   pub nothing : now.replay ≡ nothing_delivered_within now.replay.buffer.horizon
   pub drill : (size : ℕ) → plan ≡ Drill size → IsByFirst now × (now.replay ≡ nothing_delivered)
-  pub follow : (choices : FollowChoices) → plan ≡ Follow choices → now ≡ record world { limit = 20000000 }
+  pub follow : (choices : FollowChoices) → plan ≡ Follow choices → now ≡ record world { limit = default_max_terms }
   pub limit : now.limit ≡ limit_of_plan plan
   pub held : HoldsWithin (limit_of_plan plan) now

@@ -14,15 +14,13 @@ use crate::split::split;
 use crate::task::Task;
 use arguments::{Plan, read_plan};
 use checkpoint::Snapshots;
+use rdf_term::DEFAULT_MAX_TERMS;
 use revisions::Revisions;
 use run_model::{Ports, Report, Status};
 use std::alloc::Global;
 use std::hash::RandomState;
 use world::World;
 use wq_io::{Sink, Source};
-
-/// The limit of the world of a drill and of a follower.
-const LIMIT: u32 = 20_000_000;
 
 // Runs the command of a plan.
 pub fn run_plan<S: Source, R: Revisions, K: Sink, F: Snapshots>(
@@ -72,12 +70,12 @@ pub fn unbegun(words: &[String], world: World) -> World
         Some(Plan::Drill(_)) => {
             let mut world = world;
             begin_by_first(&mut world);
-            world.set_limit(LIMIT);
+            world.set_limit(DEFAULT_MAX_TERMS);
             world
         }
         Some(Plan::Follow(_)) => {
             let mut world = world;
-            world.set_limit(LIMIT);
+            world.set_limit(DEFAULT_MAX_TERMS);
             world
         }
         None => unreachable!(),

@@ -15,21 +15,21 @@ use delivery::Delivery;
 use graph_query::Query;
 use patch_stream::print_step;
 use rdf_term::Pattern;
-use run_model::Report;
+use run_model::{Report, Reported};
 use std::alloc::Global;
 use text_output::Unwritten;
 use transcript::{print_answer, print_match};
-use triple_store::Change;
+use triple_store::Told;
 use wq_io::Sink;
 
-// The context in which a delivery is taken: memory, the folder of the revisions, what is reported, how many asks were answered or records
-// written before, and how many matches were delivered.
+// The context in which a delivery is taken: memory, the folder of the revisions, what is reported, what was reported before, and how many
+// matches were delivered.
 #[derive(Clone, Copy)]
 pub struct Context<'a> {
     pub alloc: Global,
     pub folder: &'a str,
     pub report: Report,
-    pub reported: u64,
+    pub reported: Reported,
     pub matched: u64,
 }
 
@@ -41,39 +41,41 @@ pub struct Incoming<'a> {
 }
 
 impl Context<'_> {
-    // Answers an ask, if questions are answered, and says how many asks were answered then. In a split each graph answers.
+    // Answers an ask, if questions are answered, and says what is reported then. In a split each graph answers.
     pub fn answer<K: Sink>(
         &self,
         pattern: &Pattern,
         replay: &Replay,
         out: &mut K,
-    ) -> Result<u64, Unwritten>
+    ) -> Result<Reported, Unwritten>
         requires number { HasNumberLeft self.now.report self.now.reported self.now.matched }
         ensures answers { AnswersQuestion self.now.report self.now.reported (for_triples pattern.now)
-            (answer_text replay.now.routes self.now.reported self.now.matched (meaning_by meaning replay.now.world.by_two) replay.now.world.replay.played.records (for_triples pattern.now))
+            (answer_text replay.now.routes self.now.reported.number self.now.matched (meaning_by meaning replay.now.world.by_two) replay.now.world.replay.played.records (for_triples pattern.now))
             (output K.Sink out.old) (output K.Sink out.new) result }
         ensures written { HasWrittenOn K.Sink out.old out.new }
     {
         match self.report {
             Report::Answers => match self.print(pattern, replay, out) {
-                Ok(()) => Ok(self.reported + 1),
+                Ok(()) => Ok(Reported {
+                    number: self.reported.number + 1,
+                    changed: self.reported.changed,
+                }),
                 Err(why) => Err(why),
             },
             Report::Changes => Ok(self.reported),
         }
     }
 
-    // Answers a match, if questions are answered, and says how many asks were answered, which a match doesn't change. A split passes it
-    // over.
+    // Answers a match, if questions are answered, and says what is reported then, which a match doesn't change. A split passes it over.
     pub fn answer_match<K: Sink>(
         &self,
         query: &Query,
         replay: &Replay,
         out: &mut K,
-    ) -> Result<u64, Unwritten>
+    ) -> Result<Reported, Unwritten>
         requires number { HasNumberLeft self.now.report self.now.reported self.now.matched }
         ensures answers { AnswersQuestion self.now.report self.now.reported (for_bindings query.now)
-            (answer_text replay.now.routes self.now.reported self.now.matched (meaning_by meaning replay.now.world.by_two) replay.now.world.replay.played.records (for_bindings query.now))
+            (answer_text replay.now.routes self.now.reported.number self.now.matched (meaning_by meaning replay.now.world.by_two) replay.now.world.replay.played.records (for_bindings query.now))
             (output K.Sink out.old) (output K.Sink out.new) result }
         ensures written { HasWrittenOn K.Sink out.old out.new }
     {
@@ -94,7 +96,7 @@ impl Context<'_> {
         out: &mut K,
     ) -> Result<(), Unwritten>
         requires number { self.now.matched < 2 ^ 64 - 1 }
-        ensures { Prints (answer_text replay.now.routes self.now.reported self.now.matched (meaning_by meaning replay.now.world.by_two) replay.now.world.replay.played.records (for_bindings query.now))
+        ensures { Prints (answer_text replay.now.routes self.now.reported.number self.now.matched (meaning_by meaning replay.now.world.by_two) replay.now.world.replay.played.records (for_bindings query.now))
             (output K.Sink out.old) (output K.Sink out.new) result }
     {
         match &replay.graphs {
@@ -110,34 +112,45 @@ impl Context<'_> {
         replay: &Replay,
         out: &mut K,
     ) -> Result<(), Unwritten>
-        requires number { self.now.reported < 2 ^ 64 - 1 }
-        ensures { Prints (answer_text replay.now.routes self.now.reported self.now.matched (meaning_by meaning replay.now.world.by_two) replay.now.world.replay.played.records (for_triples pattern.now))
+        requires number { self.now.reported.number < 2 ^ 64 - 1 }
+        ensures { Prints (answer_text replay.now.routes self.now.reported.number self.now.matched (meaning_by meaning replay.now.world.by_two) replay.now.world.replay.played.records (for_triples pattern.now))
             (output K.Sink out.old) (output K.Sink out.new) result }
     {
-        let number = self.reported + 1;
+        let number = self.reported.number + 1;
         match &replay.graphs {
             Some(graphs) => graphs.print_answers(self.alloc, number, pattern, out),
             None => print_answer(self.alloc, number, pattern, &replay.world, out),
         }
     }
 
-    // If changes are reported, writes the record of a step after the given number of records, and says how many there are then.
+    // Says what is reported once a step was made that tells this: where changes are reported, its record is written behind the others;
+    // otherwise whether a step has changed which triples are stored.
     pub fn tell<K: Sink>(
         &self,
-        reported: u64,
-        change: Option<Change>,
+        reported: Reported,
+        told: Told,
         out: &mut K,
-    ) -> Result<u64, Unwritten>
-        ensures tells { (before after : List TheTriple) → Tells (telling_of self.now.report) before after change →
+    ) -> Result<Reported, Unwritten>
+        ensures tells { (before after : List TheTriple) → Tells (telling_of self.now.report reported) before after told →
             TellsStepBy self.now.report reported (step before after) (output K.Sink out.old) (output K.Sink out.new) result }
         ensures written { HasWrittenOn K.Sink out.old out.new }
     {
         match self.report {
             Report::Answers => {
-                drop(change);
-                Ok(reported)
+                let differs = told.is_change();
+                drop(told);
+                Ok(Reported {
+                    number: reported.number,
+                    changed: reported.changed || differs,
+                })
             }
-            Report::Changes => print_step(self.alloc, reported, change, out),
+            Report::Changes => match print_step(self.alloc, reported.number, told, out) {
+                Ok(number) => Ok(Reported {
+                    number,
+                    changed: reported.changed,
+                }),
+                Err(why) => Err(why),
+            },
         }
     }
 }

@@ -15,17 +15,17 @@ use crate::replay::Replay;
 use delivery::Delivery;
 use reorder_buffer::Taken;
 use revisions::Revisions;
-use run_model::{Halt, Stop};
+use run_model::{Halt, Reported, Stop};
 use splitting::{follow_application, routes_of};
 use triple_store::StoreFault;
 use world::{AppliedStep, WorldFault};
 use wq_io::Sink;
 
-// What taking a delivery gave: what its event was, if it is one, and how many answers or records are written then.
-#[derive(Clone, Copy, PartialEq, Eq)]
+// What taking a delivery gave: what its event was, if it is one, and what is reported then.
+#[derive(Clone, Copy)]
 pub struct Delivered {
     pub answer: Option<Taken>,
-    pub reported: u64,
+    pub reported: Reported,
 }
 
 // Takes one delivery: all that it makes due is applied, it is answered if it is a question, and what is held is remapped if it changes the
@@ -94,7 +94,7 @@ pub fn take_end<R: Revisions, K: Sink>(
     revisions: &mut R,
     out: &mut K,
     replay: &mut Replay,
-) -> Result<u64, Halt>
+) -> Result<Reported, Halt>
     ensures ok { IfOk result (λ reported. AppliesDue (environment_in replay.old context.now.report (R.contents revisions.old) context.now.folder.now) context.now.reported reported
         (with_world (stage R.Revisions K.Sink revisions.old out.old replay.old.world) (after_end replay.old.world.replay)) (stage R.Revisions K.Sink revisions.new out.new replay.new.world)) }
     ensures err { IfErr result (λ halt. StaysWithin halt (environment_in replay.old context.now.report (R.contents revisions.old) context.now.folder.now) context.now.reported
@@ -112,13 +112,13 @@ pub fn take_end<R: Revisions, K: Sink>(
 }
 
 // Applies all due events, the least first, and tells each, where changes are reported, before the next is applied; stops at once where the
-// graphs of a split are lost. Says how many answers or records are written then.
+// graphs of a split are lost. Says what is reported then.
 fn apply_due<R: Revisions, K: Sink>(
     context: &Context<'_>,
     revisions: &mut R,
     out: &mut K,
     replay: &mut Replay,
-) -> Result<u64, Halt>
+) -> Result<Reported, Halt>
     ensures ok { IfOk result (λ reported. AppliesDue (environment_in replay.old context.now.report (R.contents revisions.old) context.now.folder.now) context.now.reported reported
         (stage R.Revisions K.Sink revisions.old out.old replay.old.world) (stage R.Revisions K.Sink revisions.new out.new replay.new.world)) }
     ensures err { IfErr result (λ halt. StaysWithin halt (environment_in replay.old context.now.report (R.contents revisions.old) context.now.folder.now) context.now.reported
@@ -136,7 +136,7 @@ fn apply_due<R: Revisions, K: Sink>(
         match replay.world.apply_next_with(
             revisions,
             context.folder,
-            context.report.telling(),
+            context.report.telling(reported),
             routes_of(&replay.graphs),
         ) {
             Ok(

@@ -8,6 +8,7 @@ ghost use Rattle.drill_replay.specs.Playing.{Counted, HasBegun, HasFew, IsByFirs
 ghost use Rattle.drill_replay.specs.Summary.{drilled};
 ghost use Rattle.session.specs.DrillPlaying.{HasTakenFirst, LeavesDrill};
 ghost use Rattle.term_pool.specs.declared.fault.PoolFault.TheVariants.{OutOfMemory as PoolOutOfMemory};
+ghost use Rattle.rdf_term.specs.Limits.{default_max_terms};
 
 use crate::context::{Context, Incoming};
 use crate::delivering::{deliver, take_end};
@@ -15,23 +16,24 @@ use crate::replay::Replay;
 use drill::{DrillRevisions, deliveries};
 use drill_replay::DrillCounts;
 use rdf_term::OutOfMemory;
-use run_model::{Halt, Report, Stop};
+use run_model::{Halt, Report, Reported, Stop};
 use std::alloc::Global;
 use wq_io::Sink;
 
 // The folder of a drill's pages, which are the same in every folder.
 const FOLDER: &str = ".";
 
-// A drill that is under way: its size, its pages, and what was counted of it.
+// A drill that is under way: its size, its pages, what was counted of it, and whether a step changed which triples are stored.
 #[derive(Drop)]
 struct DrillRun {
     alloc: Global,
     size: u32,
     pages: DrillRevisions,
     counts: DrillCounts,
+    changed: bool,
 }
 
-// Takes all deliveries of the drill of this size and the end, and counts. The world has room for 20,000,000 terms.
+// Takes all deliveries of the drill of this size and the end, and counts. The world has the default limit on terms.
 pub fn play<K: Sink>(
     alloc: Global,
     size: u32,
@@ -41,7 +43,7 @@ pub fn play<K: Sink>(
     requires size { IsSize size }
     requires world { replay.old.world.replay ≡ nothing_delivered }
     requires first { IsByFirst replay.old.world }
-    requires limit { replay.old.world.limit ≡ 20000000 }
+    requires limit { replay.old.world.limit ≡ default_max_terms }
     requires routes { replay.old.routes ≡ None }
     ensures counts { IfOk result (λ counts. Counted (drill size) counts) }
     ensures ok { OnOk result (replay.new.world.replay ≡ drilled size) }
@@ -56,6 +58,7 @@ pub fn play<K: Sink>(
         size,
         pages,
         counts,
+        changed: false,
     };
     for done in 0..size {
         run.take_item(done, out, replay)?;
@@ -85,18 +88,24 @@ impl DrillRun {
         ensures size { self.new.size ≡ self.old.size }
         ensures routes { replay.new.routes ≡ None }
     {
-        let context = Context {
-            alloc: self.alloc,
-            folder: FOLDER,
-            report: Report::Answers,
-            reported: 0,
-            matched: 0,
-        };
         let list = deliveries(self.alloc, done + 1)?;
         for delivery in list.as_slice() {
+            let context = Context {
+                alloc: self.alloc,
+                folder: FOLDER,
+                report: Report::Answers,
+                reported: Reported {
+                    number: 0,
+                    changed: self.changed,
+                },
+                matched: 0,
+            };
             let incoming = Incoming { context, delivery };
             match deliver(&incoming, &mut self.pages, out, replay) {
-                Ok(done) => self.counts.add(done.answer),
+                Ok(done) => {
+                    self.changed = done.reported.changed;
+                    self.counts.add(done.answer);
+                }
                 Err(stop) => {
                     drop(list);
                     return Err(refused(stop));
@@ -122,7 +131,10 @@ impl DrillRun {
             alloc: self.alloc,
             folder: FOLDER,
             report: Report::Answers,
-            reported: 0,
+            reported: Reported {
+                number: 0,
+                changed: self.changed,
+            },
             matched: 0,
         };
         match take_end(&context, &mut self.pages, out, replay) {

@@ -11,7 +11,7 @@ ghost use Rattle.run_model.specs.{Moved.GoesOn, Remapping.mapped_by, Remapping.m
 use crate::context::Context;
 use crate::replay::Replay;
 use entity_model::MappingVersion;
-use run_model::Halt;
+use run_model::{Halt, Reported};
 use splitting::follow_remapping;
 use triple_store::StoreFault;
 use world::{RemappedStep, World, WorldFault};
@@ -29,14 +29,13 @@ pub fn begin_by_first(world: &mut World)
 }
 
 // Puts a version of the mapping in force, and maps all that is held by it, the page of the least entity first; tells each, where changes are
-// reported, before the next is mapped; stops at once where the graphs of a split are lost. Says how many answers or records are written
-// then.
+// reported, before the next is mapped; stops at once where the graphs of a split are lost. Says what is reported then.
 pub fn take_mapping<K: Sink>(
     context: &Context<'_>,
     version: MappingVersion,
     out: &mut K,
     replay: &mut Replay,
-) -> Result<u64, Halt>
+) -> Result<Reported, Halt>
     ensures state { replay.new.world.replay ≡ replay.old.world.replay }
     ensures same { GoesOn replay.old replay.new }
     ensures ok { OnOk result (mapped_in replay.new.world ≡ mapped_by version replay.old.world.replay.played.records) }
@@ -51,7 +50,10 @@ pub fn take_mapping<K: Sink>(
     replay.world.set_mapping(version);
     let mut reported = context.reported;
     while replay.world.stale() > 0 {
-        match replay.world.remap_next_with(context.report.telling()) {
+        match replay
+            .world
+            .remap_next_with(context.report.telling(reported))
+        {
             Ok(
                 Some(
                     RemappedStep {

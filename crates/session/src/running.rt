@@ -9,6 +9,7 @@ ghost use Rattle.session.specs.Plans.{DrillEnding, FollowEnding, IsNotUnderstood
 ghost use Rattle.following.specs.Following.{follow_moment};
 ghost use Rattle.arguments.specs.{Options.FollowChoices, Plan.plan_of, declared.plan.Plan.Plan as ThePlan};
 ghost use Rattle.arguments.specs.declared.plan.Plan.TheVariants.{Drill, Follow};
+ghost use Rattle.rdf_term.specs.Limits.{default_max_terms};
 
 use crate::commands::{run_plan, unbegun};
 use arguments::{ItemWords, read_plan};
@@ -32,7 +33,8 @@ use wq_io::{Sink, Source};
 ///
 /// With `--save` the end of the input isn't the end of the deliveries: waiting events stay queued, the sections show the world as it is
 /// then, and its snapshot is kept last. With `--every` the replay also keeps a snapshot after every N-th watermark, once all events that it
-/// makes due are applied and reported, and before it reads the next line.
+/// makes due are applied and reported, and before it reads the next line. From the first change of the stored triples on, `replay` and
+/// `split` pass over one number of records in their snapshots, since no record tells of their changes.
 ///
 /// `split` replays the same lines into several graphs: it answers each ask for each graph, and at the end prints the triples of each. It
 /// skips matches.
@@ -83,7 +85,7 @@ pub fn run<S: Source, R: Revisions, K: Sink, F: Snapshots>(
         FollowEnding result.0 choices
         (follow_moment S.Source K.Sink ports.old.events ports.old.out)
         (follow_moment S.Source K.Sink ports.new.events ports.new.out)
-        × (ports.new ≡ record ports.old { events = ports.new.events; out = ports.new.out }) × (result.1 ≡ record world { limit = 20000000 }) }
+        × (ports.new ≡ record ports.old { events = ports.new.events; out = ports.new.out }) × (result.1 ≡ record world { limit = default_max_terms }) }
 
     // Once the arguments are understood, the world ends with the plan's limit, however the run ends, and what it holds stays within it.
     ensures limit { (plan : ThePlan) → plan_of (map (λ w. string_bytes w) words.now) ≡ Some plan →

@@ -25,8 +25,7 @@ use wq_io::{Lines, Sink, Source};
 
 // Takes all lines of the input; after each watermark all due events are applied before the next line is taken, and each question is
 // answered at once; a change of the mapping remaps all held pages before the next line is taken. Saves the world behind each watermark that
-// is followed by a save. Says how many asks were answered or records written then, how many matches were delivered, and how many lines
-// taken, with those of earlier runs.
+// is followed by a save. Says what is reported then, how many matches were delivered, and how many lines taken, with those of earlier runs.
 pub fn take_lines<S: Source, R: Revisions, K: Sink, F: Snapshots>(
     task: &Task<'_>,
     ports: &mut Ports<S, R, K, F>,

@@ -7,13 +7,13 @@ use Rattle.replay_model.specs.ReplayState.{ReplayState, after_end, ended}
 use Rattle.replay_model.specs.Transcript.{Sections, asks, matches}
 use Rattle.replay_parts.specs.Checkpoint.{Checkpoint}
 use Rattle.graph_routes.specs.declared.routes.Route.{Route}
-use Rattle.patch_stream.specs.Stream.{steps_due}
+use Rattle.patch_stream.specs.Stream.{has_change, steps_due}
 use Rattle.arguments.specs.Options.{closes, max_bytes_of}
 use Rattle.run_model.specs.declared.report.Report.{Report}
 use Rattle.run_model.specs.declared.report.Report.TheVariants.{Answers, Changes}
 use Rattle.run_model.specs.Course.{along, closing_by, course_ended, course_printed, said_by, state_along, steps_of_delivery, stream_text_from, version_since}
 use Rattle.run_model.specs.Headline.{Ending, course_of, numbers_saved}
-use Rattle.run_model.specs.Moment.{Beginning, Moment, Run, numbers_after, numbers_of, sections_of, standing, start_of}
+use Rattle.run_model.specs.Moment.{Beginning, Moment, Run, numbers_after, numbers_of, reported_as, sections_of, standing, start_of}
 use Rattle.run_model.specs.{Reading.AreDeliveries, Remapping.mapped_by, Report.bytes_of, Taking.judgement, Taking.replies_there}
 use Rattle.run_model.proofs.Reading.{at_known}
 use Rattle.session_laws.specs.Reruns.{BeginAlike, NoFetchFails, replies_at, reported}
@@ -87,16 +87,6 @@ module _ (run : Run) (before now again done : Moment) (one : Ending run before n
       (at_known before.input.left bytes (λ b. AreDeliveries (max_bytes_of run.choices) b one.replayed.deliveries) left one.replayed.are)
       (at_known again.input.left bytes (λ b. AreDeliveries (max_bytes_of run.choices) b two.replayed.deliveries) left_again two.replayed.are)
 
-  -- if questions are answered, the counts that are saved are the same
-  pub same_counts : run.environment.report ≡ Answers → numbers_saved one ≡ numbers_saved two
-  same_counts answers = by run.environment.report answers
-    where
-      by : (report : Report) → report ≡ Answers →
-          numbers_of report (course_of run one.replayed.deliveries (start_of run before)).steps one.replayed.deliveries (start_of run before) one.replayed.replay.played.replies
-          ≡ numbers_of report (course_of run two.replayed.deliveries (start_of run again)).steps two.replayed.deliveries (start_of run again) two.replayed.replay.played.replies
-      by Answers is = λ i. numbers_after run.numbered Answers (run.numbered.asks + asks (same_deliveries i)) (run.numbered.matches + matches (same_deliveries i)) (run.numbered.lines + length (same_deliveries i))
-      by Changes is = cc
-
   module _ (alike : BeginAlike before again) (contents : ℕ → Option Bytes) (known : run.environment.known ≡ Some contents) (unfailed : NoFetchFails before now) (unfailed_again : NoFetchFails again done) where
     same_replies : replies_at contents before ≡ replies_at contents again
     same_replies = ap (λ (w : ReplayState). source_replies judgement contents (failed_events w.played.side)) (sym alike.world)
@@ -107,6 +97,26 @@ module _ (run : Run) (before now again done : Moment) (one : Ending run before n
         ∙ (λ i. (course_of run (same_deliveries i) (start_of run before)).state (same_replies i))
         ∙ state_same run.environment.routes (closes run.choices) two.replayed.deliveries (start_of run before) (start_of run again) (same_standing run before again alike) (replies_at contents again)
         ∙ sym (world_told run again done two unfailed_again contents known)
+
+    -- if questions are answered, the counts that are saved are the same
+    pub same_counts : run.environment.report ≡ Answers → numbers_saved one ≡ numbers_saved two
+    same_counts answers = by run.environment.report answers
+      where
+        changed_alike : has_change ((course_of run one.replayed.deliveries (start_of run before)).steps one.replayed.replay.played.replies)
+            ≡ has_change ((course_of run two.replayed.deliveries (start_of run again)).steps two.replayed.replay.played.replies)
+        changed_alike =
+            sym (one.replayed.replay.played.source_changes contents known answers)
+            ∙ ap (λ r. has_change ((course_of run one.replayed.deliveries (start_of run before)).steps r)) (replies_same run before now one unfailed contents known)
+            ∙ (λ i. has_change ((course_of run (same_deliveries i) (start_of run before)).steps (same_replies i)))
+            ∙ ap has_change (steps_same run.environment.routes (closes run.choices) two.replayed.deliveries (start_of run before) (start_of run again) (same_standing run before again alike) (replies_at contents again))
+            ∙ ap (λ r. has_change ((course_of run two.replayed.deliveries (start_of run again)).steps r)) (sym (replies_same run again done two unfailed_again contents known))
+            ∙ two.replayed.replay.played.source_changes contents known answers
+
+        by : (report : Report) → report ≡ Answers →
+            numbers_of report (course_of run one.replayed.deliveries (start_of run before)).steps one.replayed.deliveries (start_of run before) one.replayed.replay.played.replies
+            ≡ numbers_of report (course_of run two.replayed.deliveries (start_of run again)).steps two.replayed.deliveries (start_of run again) two.replayed.replay.played.replies
+        by Answers is = λ i. numbers_after run.numbered Answers (reported_as (run.numbered.asks + asks (same_deliveries i)) (changed_alike i)) (run.numbered.matches + matches (same_deliveries i)) (run.numbered.lines + length (same_deliveries i))
+        by Changes is = cc
 
     pub same_mapped : now.stage.mapped ≡ done.stage.mapped
     same_mapped =

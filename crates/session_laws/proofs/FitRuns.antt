@@ -1,12 +1,12 @@
 -- What a first run over a told input saves can be read back.
-use Rattle.std.proofs.Common.{◌≡◌, sym, subst, ap, ℕ, ◌*◌, ◌≤◌, ◌^◌, Bool, true, false, cond, List, [], ◌∷◌, length, filter_map, nat_le, Option, None, Some, Ok, Err, arith}
+use Rattle.std.proofs.Common.{◌≡◌, sym, subst, ap, ℕ, ◌+◌, ◌*◌, ◌≤◌, ◌^◌, Bool, true, false, cond, List, [], ◌∷◌, length, filter_map, nat_le, Option, None, Some, Ok, Err, arith}
 use Rattle.std.specs.List.{cons_option}
 use Rattle.sorted_sets.specs.Rising.{Each}
 use Rattle.wq_io.specs.Lines.{lines, longest_line}
 use Rattle.delivery.specs.declared.Delivery.{Delivery}
 use Rattle.event_line.specs.{declared.faults.LineCause.TheVariants.LineLong, Line.delivery_of}
 use Rattle.replay_model.specs.{Play.Replies, Transcript.pattern_of, Transcript.shapes_of}
-use Rattle.patch_stream.specs.Stream.{Step, is_change}
+use Rattle.patch_stream.specs.Stream.{Step, has_change, is_change}
 use Rattle.stream_laws.proofs.Bounds.{filter_few}
 use Rattle.snapshot.specs.{declared.counts.Counts.Counts, Deliveries.IsFitDelivery}
 use Rattle.checkpoint.specs.Saved.{AreWithin}
@@ -47,6 +47,11 @@ mapped_few {B = B} f (x ∷ xs) = by (f x) (mapped_few f xs)
     by (Some y) few = omega (arith, few)
     by None few = omega (arith, few)
 
+-- one number that is passed over
+passed_over : (changed : Bool) (told : ℕ) → told ≡ 0 → cond changed (told + 1) told ≤ 2 ^ 63
+passed_over true told none = omega (arith, none)
+passed_over false told none = omega (arith, none)
+
 -- the counts of a first run of few deliveries with few steps leave a number for each question and record to come
 pub counts_within : (report : Report) (steps : Replies → List Step) (ds : List Delivery) (start : Beginning) (replies : Replies) → start.numbered ≡ no_numbers → 2 * length ds ≤ 4294967296 → length (steps replies) ≤ 2 ^ 63 → AreWithin (numbers_of report steps ds start replies)
 counts_within report steps ds start replies none few small = by report
@@ -67,7 +72,7 @@ counts_within report steps ds start replies none few small = by report
     by Answers = record {
       asks = omega (arith, asked, few, mapped_few pattern_of ds);
       matches = omega (arith, matched, few, mapped_few shapes_of ds);
-      patches = omega (arith, told);
+      patches = passed_over (has_change (steps replies)) start.numbered.patches told;
       lines = omega (arith, taken, few);
     }
     by Changes = record {

@@ -18,6 +18,7 @@ mod OneRun
 mod Opening
 mod Prefixes
 mod Reloading
+mod RunsOn
 mod SaidRuns
 mod SavedLines
 mod Stopped

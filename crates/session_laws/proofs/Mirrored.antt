@@ -46,7 +46,7 @@ reaches h earlier ds run before now stands ending told counts steps are = record
   mapped = mapped_is h earlier ds run before now stands ending;
   stands = next_stands h earlier ds run before now stands ending;
   counts = next_patches h earlier ds run before now stands ending told counts;
-  are = ap (λ l. l ++ steps_made run before now ending) are ∙ steps_together h earlier ds run before now stands ending told counts;
+  are = ap (λ l. l ++ steps_made run before now ending) are ∙ steps_together h earlier ds run before now stands ending;
 }
 
 -- and so does one that was cut off, up to where its snapshot was kept
@@ -112,17 +112,17 @@ records_after steps more =
 
 -- ---- records after a gap are passed over
 
-rises_along : (first last : List Triple) (steps : List Step) → IsRising triple_cmp first → IsChain first steps last → (n : ℕ) → IsRising triple_cmp (stored_after first steps n)
+pub rises_along : (first last : List Triple) (steps : List Step) → IsRising triple_cmp first → IsChain first steps last → (n : ℕ) → IsRising triple_cmp (stored_after first steps n)
 rises_along first last [] rises chain n = rises
 rises_along first last (s ∷ steps) rises chain zero = rises
 rises_along first last (s ∷ steps) rises chain (suc n) = rises_along s.after last steps chain.0.rises_after chain.1 n
 
-at_start : (first : List Triple) (steps : List Step) → stored_after first steps 0 ≡ first
+pub at_start : (first : List Triple) (steps : List Step) → stored_after first steps 0 ≡ first
 at_start first [] = refl
 at_start first (s ∷ steps) = refl
 
 -- each record says what changed from the step before
-are_records : (producer : ℕ → List Triple) (told : ℕ) (first last : List Triple) (steps : List Step) → ((n : ℕ) → producer (told + n) ≡ stored_after first steps n) → IsChain first steps last →
+pub are_records : (producer : ℕ → List Triple) (told : ℕ) (first last : List Triple) (steps : List Step) → ((n : ℕ) → producer (told + n) ≡ stored_after first steps n) → IsChain first steps last →
     (item : PatchRecord) → In item (numbered_from (told + 1) steps) → IsRecordOf producer item
 are_records producer told first last [] agrees chain item there = absurd there
 are_records producer told first last (s ∷ steps) agrees chain item there = ⊎_elim here
@@ -150,7 +150,7 @@ are_records producer told first last (s ∷ steps) agrees chain item there = ⊎
       removes = λ i. difference triple_cmp (sym (ap producer before ∙ at) i) (sym next_is i);
     })
 
-of_producer : (producer : ℕ → List Triple) (all items : List PatchRecord) → ((item : PatchRecord) → In item all → IsRecordOf producer item) → Each (λ item. In item all) items → AllByRecursion (IsRecordOf producer) items
+pub of_producer : (producer : ℕ → List Triple) (all items : List PatchRecord) → ((item : PatchRecord) → In item all → IsRecordOf producer item) → Each (λ item. In item all) items → AllByRecursion (IsRecordOf producer) items
 of_producer producer all [] gives each = tt
 of_producer producer all (x ∷ xs) gives each = (gives x each.0, of_producer producer all xs gives each.1)
 
@@ -165,20 +165,23 @@ lead_there last steps items n chain each greatest =
 
 -- ---- followers
 
-module _ (closed : Bool) (stage : Stage) (numbers : Counts) (steps : List Step) (chain : GoOn closed stage numbers steps) (choices : FollowChoices) (before now : FollowMoment) (bytes : List ℕ) (items : List PatchRecord)
-    (followed : Followed choices before now) (known : before.input.left ≡ Some bytes) (are : AreRecords (follow_max_bytes_of choices) bytes items None) where
+module _ (choices : FollowChoices) (before now : FollowMoment) (bytes : List ℕ) (items : List PatchRecord) (followed : Followed choices before now) (known : before.input.left ≡ Some bytes) (are : AreRecords (follow_max_bytes_of choices) bytes items None) where
   same_items : followed.items ≡ items
   same_items = (one_list _ followed.items items None None (found_records choices before now bytes known followed.items followed.followed.are).are are.are).0
 
-  shows : (n : ℕ) (triples : List Triple) → IsGreatest items n → after items n ≡ triples → now.output.bytes ≡ after_known before.output.bytes (replica_text choices.export n triples)
+  -- what a follower prints that applied the records up to this one
+  pub shows : (n : ℕ) (triples : List Triple) → IsGreatest items n → after items n ≡ triples → now.output.bytes ≡ after_known before.output.bytes (replica_text choices.export n triples)
   shows n triples greatest is =
       let applied : followed.applied ≡ n = one_greatest items followed.applied n (subst (λ l. IsGreatest l followed.applied) same_items followed.followed.greatest) greatest in
       followed.printed ∙ (λ i. after_known before.output.bytes (replica_text choices.export (applied i) (((λ j. after (same_items j) (applied j)) ∙ is) i)))
 
+module _ (closed : Bool) (stage : Stage) (numbers : Counts) (steps : List Step) (chain : GoOn closed stage numbers steps) (choices : FollowChoices) (before now : FollowMoment) (bytes : List ℕ) (items : List PatchRecord)
+    (followed : Followed choices before now) (known : before.input.left ≡ Some bytes) (are : AreRecords (follow_max_bytes_of choices) bytes items None) where
   pub follower_has : AreOfStream steps items → now.output.bytes ≡ after_known before.output.bytes (replica_text choices.export (changes steps) (held_triples stage.mapped stage.world.played.records))
   follower_has of_stream =
       let lead = chain_of closed stage numbers steps chain in
-      shows (changes steps) (held_triples stage.mapped stage.world.played.records) (all_there _ steps items lead of_stream) (after_stream _ steps items lead of_stream)
+      shows choices before now bytes items followed known are (changes steps) (held_triples stage.mapped stage.world.played.records) (all_there _ steps items lead of_stream) (after_stream _ steps items lead of_stream)
 
   pub follower_stops : (n : ℕ) → Each (λ item. In item (stream steps)) items → IsGreatest items n → now.output.bytes ≡ after_known before.output.bytes (replica_text choices.export n (stored_at_record steps n))
-  follower_stops n each greatest = shows n (stored_at_record steps n) greatest (lead_there (held_triples stage.mapped stage.world.played.records) steps items n (chain_of closed stage numbers steps chain) each greatest)
+  follower_stops n each greatest =
+      shows choices before now bytes items followed known are n (stored_at_record steps n) greatest (lead_there (held_triples stage.mapped stage.world.played.records) steps items n (chain_of closed stage numbers steps chain) each greatest)

@@ -187,27 +187,27 @@ module _ (h : Option ℕ) (first : Replies) (a : List Delivery) (run : Run) (bef
       rest_by run.environment.routes,
     )
 
+  abbrev made : List Step
+  made = (course_of run b start).steps second
+
+  along_same : along steps_of_delivery second (standing start) b ≡ along steps_of_delivery second (checkpoint h first a) b
+  along_same = steps_same second (standing start) (checkpoint h first a) stands.world stands.version b
+
+  steps_are : (routes : Option (List Route)) (closed : Bool) → steps_of_play h first a ++ (course_ended routes closed b start).steps second ≡ steps_ended closed h both (a ++ b)
+  steps_are routes false = ap (λ l. steps_of_play h first a ++ l) along_same ∙ sym (steps-two h first second a b)
+  steps_are routes true =
+      (λ i. steps_of_play h first a ++ (along_same i ++ steps_due (version_on i) second (after_end (same_state second (standing start) (checkpoint h first a) stands.world b i))))
+      ∙ sym (steps_to_end-two h first second a b)
+    where
+      version_on : version_at b start ≡ (advanced_by second (checkpoint h first a) b).version
+      version_on = version_is ∙ ap (λ (c : Checkpoint). c.version) (checkpoint-two h first second a b)
+
+  -- the steps of the run come behind those of the play
+  pub steps_together : steps_of_play h first a ++ made ≡ steps_ended (closes run.choices) h both (a ++ b)
+  steps_together = steps_are run.environment.routes (closes run.choices)
+
   -- where changes are reported, the records are those of one stream
   module _ (told : run.environment.report ≡ Changes) (counts : run.numbered.patches ≡ changes (steps_of_play h first a)) where
-    abbrev made : List Step
-    made = (course_of run b start).steps second
-
-    along_same : along steps_of_delivery second (standing start) b ≡ along steps_of_delivery second (checkpoint h first a) b
-    along_same = steps_same second (standing start) (checkpoint h first a) stands.world stands.version b
-
-    steps_are : (routes : Option (List Route)) (closed : Bool) → steps_of_play h first a ++ (course_ended routes closed b start).steps second ≡ steps_ended closed h both (a ++ b)
-    steps_are routes false = ap (λ l. steps_of_play h first a ++ l) along_same ∙ sym (steps-two h first second a b)
-    steps_are routes true =
-        (λ i. steps_of_play h first a ++ (along_same i ++ steps_due (version_on i) second (after_end (same_state second (standing start) (checkpoint h first a) stands.world b i))))
-        ∙ sym (steps_to_end-two h first second a b)
-      where
-        version_on : version_at b start ≡ (advanced_by second (checkpoint h first a) b).version
-        version_on = version_is ∙ ap (λ (c : Checkpoint). c.version) (checkpoint-two h first second a b)
-
-    -- the steps of the run come behind those of the play
-    pub steps_together : steps_of_play h first a ++ made ≡ steps_ended (closes run.choices) h both (a ++ b)
-    steps_together = steps_are run.environment.routes (closes run.choices)
-
     pub streams_rest : (rest : List ℕ) × (now.stage.output.bytes ≡ after_known before.stage.output.bytes rest)
         × (stream_text (steps_of_play h first a) ++ rest ≡ stream_text (steps_ended (closes run.choices) h both (a ++ b)))
     streams_rest = (

@@ -93,7 +93,7 @@ module _ (routes : Option (List Route)) (closed : Bool) (sections : Sections) (d
   pub within_written : (halt : Halt) (report : Report) (course : Course) (first : List Delivery) (now : Stage) → Begins ds first → IsFront (course.steps replies) ((course_ended routes closed ds start).steps replies) →
       course.bytes replies ≡ after_known start.output.bytes (said_by routes replies (standing start) first) → HasReportedAt halt report course start now replies → WritesPrefix (reported report routes closed sections ds start replies) start.output.bytes now.output.bytes
   within_written (Unapplied why) Answers course first now begins steps bytes told = writes (all_said routes closed sections ds start replies) (said_by routes replies (standing start) first) start.output.bytes now.output.bytes
-      (said_first routes closed sections ds first start replies begins) (told.1 ∙ bytes)
+      (said_first routes closed sections ds first start replies begins) (told.1.bytes ∙ bytes)
   within_written (Unapplied why) Changes course first now begins steps bytes told =
       writes (stream_text_from start.numbered.patches ((course_ended routes closed ds start).steps replies)) (stream_text_from start.numbered.patches told.1.steps) start.output.bytes now.output.bytes
       (text_first start.numbered.patches told.1.steps ((course_ended routes closed ds start).steps replies)

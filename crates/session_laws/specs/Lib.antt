@@ -1,3 +1,4 @@
+pub mod Chains
 pub mod Complete
 pub mod Killed
 pub mod Live

@@ -2,11 +2,12 @@
 //! that does nothing.
 //!
 //! `laws` is on one run, and on two of which one goes on from what the other saved. `kept` is on snapshots that a run keeps on the way, and
-//! on a run that was killed and went on from one. `reruns` is on runs that are made again from the same
-//! place, `live` on patch streams that go on from one another and their followers, `premises` on when the premises of others hold, and `plans` on
-//! the commands that are replays.
+//! on a run that was killed and went on from one. `reruns` is on runs that are made again from the same place, `live` on patch streams that
+//! go on from one another and their followers, `chains` on runs of any commands that do, `premises` on when the premises of others hold, and
+//! `plans` on the commands that are replays.
 #![tactic(auto)]
 
+mod chains;
 mod kept;
 mod laws;
 mod live;
@@ -14,6 +15,7 @@ mod plans;
 mod premises;
 mod reruns;
 
+pub use chains::followers_stop_before_a_missing_number;
 pub use kept::{
     kept_snapshots_stand_behind_their_lines, killed_runs_go_on_as_one,
     killed_runs_wrote_what_is_written_again,

@@ -10,6 +10,7 @@ use Rattle.run_model.specs.{Moment.moment, Moment.stage, Resuming.RunEnding, Sto
 use Rattle.run_model.proofs.Ongoing.{none_gone, written_on}
 use Rattle.session.specs.Plans.{DrillEnding, FollowEnding}
 use Rattle.session.proofs.commands.run_plan.Goals as goal
+use Rattle.rdf_term.specs.Limits.{default_max_terms}
 
 pub returns-in-Replay : goal.returns-in-Replay
 returns-in-Replay g c = rw c.in-Replay.is (record {
@@ -83,7 +84,7 @@ returns-in-Follow g c = rw c.in-Follow.is (record {
   follow = λ choices asked.
       let same : c.in-Follow.options ≡ choices = let it : Follow c.in-Follow.options ≡ Follow choices = asked in cc in
       subst (λ (x : FollowChoices). FollowEnding c.follow_records.result.0 x (follow_moment g.S.Source g.K.Sink c.args.ports.now.events c.args.ports.now.out) (follow_moment g.S.Source g.K.Sink c.follow_records.new.ports.events c.follow_records.new.ports.out)
-      × (c.follow_records.new.ports ≡ record c.args.ports.now { events = c.follow_records.new.ports.events; out = c.follow_records.new.ports.out }) × (c.follow_records.result.1 ≡ record c.args.world { limit = 20000000 }))
+      × (c.follow_records.new.ports ≡ record c.args.ports.now { events = c.follow_records.new.ports.events; out = c.follow_records.new.ports.out }) × (c.follow_records.result.1 ≡ record c.args.world { limit = default_max_terms }))
       same (c.follow_records.ensures.ending, c.follow_records.ensures.others, c.follow_records.ensures.empty);
   limit = inr (ap (λ (w : WorldState). w.limit) c.follow_records.ensures.empty, c.follow_records.ensures.held);
   unsaved = inr (ap (λ p. p.snapshot) c.follow_records.ensures.others);

@@ -10,7 +10,7 @@ use Rattle.session.proofs.drill_playing.play.Goals as goal
 pub loop-done-init : goal.loop-done-init
 loop-done-init g c = record {
   size_is = refl;
-  taken = starts _ _ c.args.replay.now.world (ap (λ (s : Source). told_of s.size) c.new-pages.ensures) c.new-counts.ensures c.requires.world c.requires.first c.requires.limit;
+  taken = starts _ _ c.args.replay.now.world (ap (λ (s : Source). told_of s.size) c.new-pages.ensures) c.new-counts.ensures refl c.requires.world c.requires.first c.requires.limit;
   few = few_none _ _ c.new-counts.ensures;
   routes = c.requires.routes;
   silent = refl;

@@ -12,4 +12,4 @@ pub returns-clause-output : goal.returns-clause-output
 returns-clause-output c = λ run before now again done contents bytes place a one two same. same_bytes run before now again done one two bytes a.left a.left_again place contents a.known a.unfailed a.unfailed_again same
 
 pub returns-clause-counts : goal.returns-clause-counts
-returns-clause-counts c = λ run before now again done contents bytes place a one two answers. same_counts run before now again done one two bytes a.left a.left_again answers
+returns-clause-counts c = λ run before now again done contents bytes place a one two answers. same_counts run before now again done one two bytes a.left a.left_again place contents a.known a.unfailed a.unfailed_again answers

@@ -105,7 +105,7 @@ loop-delivery-preserved g c =
     let before = c.loop-delivery.invariant in
     record {
       size_is = before.size_is;
-      taken = subst (λ l. HasTakenFirst (record run { pages = c.deliver.new.revisions; counts = c.add.new.self }) l (output g.K.Sink c.deliver.new.out) c.deliver.new.replay.world) (one_more n items i d c.loop-delivery-test.true c.delivery-item.is)
+      taken = subst (λ l. HasTakenFirst (record run { pages = c.deliver.new.revisions; counts = c.add.new.self; changed = c.in-Ok.done.reported.changed }) l (output g.K.Sink c.deliver.new.out) c.deliver.new.replay.world) (one_more n items i d c.loop-delivery-test.true c.delivery-item.is)
           (next_taken run _ all.0 d all.1 [] _ c.loop-delivery.replay.world before.taken c.deliver.new.revisions c.add.new.self c.in-Ok.done.answer c.in-Ok.done.reported (output g.K.Sink c.deliver.new.out) c.deliver.new.replay.world call.source.known (rw before.routes at call.ok) call.answer c.add.ensures call.same.limit);
       few = few_more c.in-Ok.done.answer c.loop-delivery.self.counts c.add.new.self (6 * n + i) (6 * n + (i + 1)) c.add.ensures (omega arith) before.few;
       silent = c.deliver.ensures.silent refl (silent run _ all.0 d all.1) ∙ before.silent;
