@@ -1,15 +1,16 @@
 -- What clap gets of arguments that are a plan, and the items that it matches.
-use Rattle.std.specs.Prelude.{◌≡◌, ℕ, Bool, true, false, cond, List, [], ◌∷◌, drop, filter, is_some, flat_map, fold, map, slice_get, string_bytes, None, Some, codes}
+use Rattle.std.specs.Prelude.{◌≡◌, ℕ, Bool, true, false, cond, List, ◌∷◌, drop, filter, is_some, flat_map, fold, map, slice_get, string_bytes, None, Some, codes}
 use Rattle.clap.specs.Facts.{explicit_source}
 use Rattle.clap.specs.Words.{App, Row, Rule, first_of, found_of, new_app, new_rule, one_of, rows_of, with_rule}
 use Rattle.clap.specs.declared.builder.action.ArgAction.TheVariants.{SetTrue}
 use Rattle.arguments.specs.declared.table.Command.{Command}
-use Rattle.arguments.specs.declared.table.ValueKind.TheVariants.{Flag, Text}
+use Rattle.arguments.specs.declared.table.ValueKind.{ValueKind}
+use Rattle.arguments.specs.declared.table.ValueKind.TheVariants.{Flag}
 use Rattle.arguments.specs.declared.items.Values.{Values}
 use Rattle.arguments.specs.declared.items.Values.TheVariants.{Written, Matched}
 use Rattle.arguments.specs.Grammar.{words_of_item}
 use Rattle.arguments.specs.Items.{Item, are_items, is_there, item, items_of, value_in}
-use Rattle.arguments.specs.Table.{Entry, entry, has_value, kind_in, name_of, table_of}
+use Rattle.arguments.specs.Table.{Entry, has_value, kind_in, name_of, table_of}
 
 -- ---- the command
 
@@ -21,14 +22,13 @@ option_rule id long = record (new_rule id) { long = Some long }
 abbrev pub flag_rule : List ℕ → List ℕ → Rule
 flag_rule id long = record (new_rule id) { long = Some long; action = Some SetTrue }
 
+-- the argument that clap has for an item with this name, this name without its hyphens, and a value of this kind
+abbrev pub rule_of_row : List ℕ → List ℕ → ValueKind → Rule
+rule_of_row name long kind = cond (has_value (Some kind)) (option_rule name long) (flag_rule name long)
+
 -- the argument that clap has for an item: its long name is the item's without the two hyphens
 abbrev pub rule_for : Entry → Rule
-rule_for e = cond (has_value (Some e.kind)) (option_rule e.name (drop 2 e.name)) (flag_rule e.name (drop 2 e.name))
-
--- a command with what a replay, a patch stream and a split have
-abbrev pub run_app : App → App
-run_app app = fold with_rule app (map rule_for (entry (codes "--from") Text ∷ entry (codes "--max-bytes") Text ∷ entry (codes "--max-terms") Text
-    ∷ entry (codes "--horizon") Text ∷ entry (codes "--save") Text ∷ entry (codes "--every") Text ∷ entry (codes "--resume") Text ∷ []))
+rule_for e = rule_of_row e.name (drop 2 e.name) e.kind
 
 -- the command that clap has, with an argument for each item
 abbrev pub app_for : Command → App

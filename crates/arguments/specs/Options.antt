@@ -2,6 +2,7 @@
 use Rattle.std.specs.Prelude.{ℕ, ◌≤◌, Bool, false, List, Option, IfSome, is_none, unwrap_or, codes}
 use Rattle.arguments.specs.Items.{Item, is_there, number_in, value_in}
 use Rattle.arguments.specs.Table.{Entry, IsInRange, follow_table, kind_in, replay_table, split_table}
+use Rattle.rdf_term.specs.Limits.{default_max_terms}
 
 -- what is asked for; each option only if the arguments have it
 pub record Choices : Type 0 where
@@ -44,9 +45,9 @@ folder_of c = unwrap_or c.folder (codes ".")
 abbrev pub max_bytes_of : Choices → ℕ
 max_bytes_of c = unwrap_or c.max_bytes 1073741824
 
--- for how many terms there is room: without `--max-terms` 20,000,000
+-- for how many terms there is room: without `--max-terms` the default
 abbrev pub max_terms_of : Choices → ℕ
-max_terms_of c = unwrap_or c.max_terms 20000000
+max_terms_of c = unwrap_or c.max_terms default_max_terms
 
 -- whether the end of the input is the end of the deliveries: where the world is saved, more may come in a later run
 abbrev pub closes : Choices → Bool

@@ -1,13 +1,13 @@
 // What clap makes of the arguments of a plan: it gets one word for each item, and its matches have the values.
 
-ghost use Rattle.std.specs.Prelude.{◌≡◌, ◌∷◌, ◌++◌, false, Some, Option, map, string_bytes, IfOk, IsSome};
-ghost use Rattle.clap.specs.Words.{app_of, found_of, kind_of, rows_of, rule_of};
+ghost use Rattle.std.specs.Prelude.{◌≡◌, ◌∷◌, ◌++◌, false, fold, map, string_bytes, IfOk, IsSome};
+ghost use Rattle.clap.specs.Words.{app_of, found_of, kind_of, rows_of, rule_of, with_rule};
 ghost use Rattle.arguments.specs.{Items.items_of, Plan.plan_of, Plan.IsSized, Table.name_of, Table.table_of};
-ghost use Rattle.arguments.specs.Matching.{AreItemWords, HasValues, app_for, flag_rule, items_matched, joined_words, option_rule, run_app};
+ghost use Rattle.arguments.specs.Matching.{AreItemWords, HasValues, app_for, items_matched, joined_words, rule_of_row};
 
 use crate::items::{Request, push_items};
 use crate::plan::{Plan, asked, split_command};
-use crate::table::Command;
+use crate::table::{Command, Row, ValueKind, has_value};
 use clap::error::ErrorKind;
 use clap::{Arg, ArgAction, ArgMatches, Error};
 use rdf_term::OutOfMemory;
@@ -42,8 +42,13 @@ impl ItemWords {
             unreachable!();
         };
         let mut words = Vec::new(alloc);
-        fill(alloc, command, after, &mut words)?;
-        Ok(ItemWords { command, words })
+        match fill(alloc, command, after, &mut words) {
+            Ok(()) => Ok(ItemWords { command, words }),
+            Err(refused) => {
+                drop(words);
+                Err(refused)
+            }
+        }
     }
 
     /// The plan that the arguments are, as clap reads it. Clap refuses them for want of memory alone.
@@ -53,7 +58,9 @@ impl ItemWords {
         ensures sized { IfOk result IsSized }
     {
         let request = Request::matched(alloc, self.command, self.words.as_slice())?;
-        match asked(&request) {
+        let plan = asked(&request);
+        drop(request);
+        match plan {
             Some(plan) => Ok(plan),
             None => unreachable!(),
         }
@@ -102,47 +109,34 @@ fn clap_command<'a>(alloc: Global, command: Command) -> Result<clap::Command<'a>
     ensures { IfOk result (λ c. app_of c ≡ app_for command) }
 {
     let name: &'a str = command.name();
-    let named = clap::Command::new(alloc, name);
-    match command {
-        Command::Replay => with_run(alloc, named)?
-            .arg(flag(alloc, "--export", "export"))?
-            .arg(flag(alloc, "--state", "state"))?
-            .arg(flag(alloc, "--side", "side")),
-        Command::Drill => named.arg(option(alloc, "--size", "size")),
-        Command::Patches => with_run(alloc, named),
-        Command::Follow => named
-            .arg(option(alloc, "--max-bytes", "max-bytes"))?
-            .arg(flag(alloc, "--export", "export")),
-        Command::Split => with_run(alloc, named)?.arg(option(alloc, "--route", "route")),
+    with_items(alloc, clap::Command::new(alloc, name), command.table())
+}
+
+// The command with an argument for each row of a table.
+fn with_items<'a>(
+    alloc: Global,
+    command: clap::Command<'a>,
+    mut table: &'a [Row<'a>],
+) -> Result<clap::Command<'a>, AllocError>
+    ensures { IfOk result (λ c. app_of c ≡ fold with_rule (app_of command.entry) (map (λ row. rule_of_row row.0.now row.1.now row.2) table.entry.now)) }
+{
+    let mut command = command;
+    while let [row, rest @ ..] = table {
+        command = command.arg(argument(alloc, row.0, row.1, row.2))?;
+        table = rest;
     }
+    Ok(command)
 }
 
-// The command with what a replay, a patch stream and a split have.
-fn with_run<'a>(alloc: Global, command: clap::Command<'a>) -> Result<clap::Command<'a>, AllocError>
-    ensures { IfOk result (λ c. app_of c ≡ run_app (app_of command.entry)) }
-{
-    command
-        .arg(option(alloc, "--from", "from"))?
-        .arg(option(alloc, "--max-bytes", "max-bytes"))?
-        .arg(option(alloc, "--max-terms", "max-terms"))?
-        .arg(option(alloc, "--horizon", "horizon"))?
-        .arg(option(alloc, "--save", "save"))?
-        .arg(option(alloc, "--every", "every"))?
-        .arg(option(alloc, "--resume", "resume"))
-}
-
-// An item with a value.
-fn option<'a>(alloc: Global, name: &'a str, long: &'a str) -> Arg<'a>
-    ensures rule { rule_of result ≡ option_rule name.entry.now long.entry.now }
+// The argument for an item with this name, this name without its hyphens, and a value of this kind.
+fn argument<'a>(alloc: Global, name: &'a str, long: &'a str, kind: ValueKind) -> Arg<'a>
+    ensures rule { rule_of result ≡ rule_of_row name.entry.now long.entry.now kind }
     ensures local { result.global ≡ false }
 {
-    Arg::new(alloc, name).long(long)
-}
-
-// An item without value.
-fn flag<'a>(alloc: Global, name: &'a str, long: &'a str) -> Arg<'a>
-    ensures rule { rule_of result ≡ flag_rule name.entry.now long.entry.now }
-    ensures local { result.global ≡ false }
-{
-    Arg::new(alloc, name).long(long).action(ArgAction::SetTrue)
+    let argument = Arg::new(alloc, name).long(long);
+    if has_value(Some(kind)) {
+        argument
+    } else {
+        argument.action(ArgAction::SetTrue)
+    }
 }

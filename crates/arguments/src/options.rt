@@ -6,6 +6,7 @@ ghost use Rattle.arguments.specs.Options.{IsAllowed, IsBounded, IsItemInRange, c
 ghost use Rattle.arguments.specs.declared.table.Command.TheVariants.{Replay, Patches, Follow, Split};
 
 use crate::items::Request;
+use rdf_term::DEFAULT_MAX_TERMS;
 use std::marker::Model;
 
 /// The default of `--from`.
@@ -13,9 +14,6 @@ const FOLDER: &str = ".";
 
 /// The default of `--max-bytes`.
 const MAX_BYTES: u64 = 1_073_741_824;
-
-/// The default of `--max-terms`.
-const MAX_TERMS: u32 = 20_000_000;
 
 /// What a replay or a patch stream is asked for, as the arguments say it. A patch stream has no sections.
 #[derive(Drop)]
@@ -100,7 +98,7 @@ impl<'a> ReplayOptions<'a> {
     pub fn max_terms(&self) -> u32
         ensures { result ≡ max_terms_of self.now }
     {
-        self.max_terms.unwrap_or(MAX_TERMS)
+        self.max_terms.unwrap_or(DEFAULT_MAX_TERMS)
     }
 
     /// The horizon in microseconds, if there is one.

@@ -31,7 +31,9 @@ pub fn read_plan<'a>(words: &'a [String]) -> Option<Plan<'a>>
 {
     let (command, after) = split_command(words)?;
     let request = Request::read(command, after)?;
-    asked(&request)
+    let plan = asked(&request);
+    drop(request);
+    plan
 }
 
 /// The command that the first argument names, and the arguments after it.

@@ -1,7 +1,8 @@
 // The commands, and the table of each: the names of its items, with the kinds of their values.
 
-ghost use Rattle.std.specs.Prelude.{◌≡◌};
-ghost use Rattle.arguments.specs.Table.{command_named, drill_table, follow_table, has_value, kind_in, name_of, patches_table, replay_table, split_table, table_of};
+ghost use Rattle.std.specs.Prelude.{◌≡◌, map};
+ghost use Rattle.arguments.specs.Table.{command_named, entry, has_value, kind_in, name_of, table_of};
+ghost use Rattle.arguments.specs.Matching.{rule_for, rule_of_row};
 
 /// What an item has as its value.
 #[derive(Clone, Copy)]
@@ -13,6 +14,67 @@ pub enum ValueKind {
     /// A whole number in decimal, from the first to the second.
     Number(u64, u64),
 }
+
+/// A row of a table: the name of an item, the same without its hyphens, and the kind of its value.
+pub type Row<'a> = (&'a str, &'a str, ValueKind);
+
+// How many bytes the input may have.
+const BYTES: ValueKind = ValueKind::Number(0, 1_099_511_627_776);
+
+// The same of a patch stream: it numbers its records in 64 bits, so it reads fewer bytes.
+const FEWER_BYTES: ValueKind = ValueKind::Number(0, 4_294_967_295);
+
+// A number of terms, or of watermark lines.
+const COUNT: ValueKind = ValueKind::Number(1, 4_294_967_295);
+
+// A number of microseconds.
+const MICROS: ValueKind = ValueKind::Number(0, 9_223_372_036_854_775_807);
+
+// The items of a replay.
+const REPLAY: [Row<'static>; 10] = [
+    ("--from", "from", ValueKind::Text),
+    ("--max-bytes", "max-bytes", BYTES),
+    ("--max-terms", "max-terms", COUNT),
+    ("--horizon", "horizon", MICROS),
+    ("--save", "save", ValueKind::Text),
+    ("--every", "every", COUNT),
+    ("--resume", "resume", ValueKind::Text),
+    ("--export", "export", ValueKind::Flag),
+    ("--state", "state", ValueKind::Flag),
+    ("--side", "side", ValueKind::Flag),
+];
+
+// The items of a drill.
+const DRILL: [Row<'static>; 1] = [("--size", "size", ValueKind::Number(1, 200_000))];
+
+// The items of a patch stream.
+const PATCHES: [Row<'static>; 7] = [
+    ("--from", "from", ValueKind::Text),
+    ("--max-bytes", "max-bytes", FEWER_BYTES),
+    ("--max-terms", "max-terms", COUNT),
+    ("--horizon", "horizon", MICROS),
+    ("--save", "save", ValueKind::Text),
+    ("--every", "every", COUNT),
+    ("--resume", "resume", ValueKind::Text),
+];
+
+// The items of a follower.
+const FOLLOW: [Row<'static>; 2] = [
+    ("--max-bytes", "max-bytes", BYTES),
+    ("--export", "export", ValueKind::Flag),
+];
+
+// The items of a split.
+const SPLIT: [Row<'static>; 8] = [
+    ("--from", "from", ValueKind::Text),
+    ("--max-bytes", "max-bytes", BYTES),
+    ("--max-terms", "max-terms", COUNT),
+    ("--horizon", "horizon", MICROS),
+    ("--save", "save", ValueKind::Text),
+    ("--every", "every", COUNT),
+    ("--resume", "resume", ValueKind::Text),
+    ("--route", "route", ValueKind::Text),
+];
 
 /// A command of the program.
 #[derive(Clone, Copy)]
@@ -61,87 +123,35 @@ impl Command {
     pub fn kind_of(self, name: &str) -> Option<ValueKind>
         ensures { result ≡ kind_in (table_of self) name.now }
     {
+        kind_in(self.table(), name)
+    }
+
+    /// The items of the command: the name of each, the same without its hyphens, and the kind of its value.
+    pub fn table(self) -> &'static [Row<'static>]
+        ensures kinds { map (λ row. entry row.0.now row.2) result.now ≡ table_of self }
+        ensures rules { map (λ row. rule_of_row row.0.now row.1.now row.2) result.now ≡ map rule_for (table_of self) }
+    {
         match self {
-            Command::Replay => replay_kind(name),
-            Command::Drill => drill_kind(name),
-            Command::Patches => patches_kind(name),
-            Command::Follow => follow_kind(name),
-            Command::Split => split_kind(name),
+            Command::Replay => &REPLAY,
+            Command::Drill => &DRILL,
+            Command::Patches => &PATCHES,
+            Command::Follow => &FOLLOW,
+            Command::Split => &SPLIT,
         }
     }
 }
 
-// The items of a replay.
-fn replay_kind(name: &str) -> Option<ValueKind>
-    ensures { result ≡ kind_in replay_table name.now }
+// The kind of the value of the item with this name, if the table has it.
+fn kind_in(mut table: &[Row<'_>], name: &str) -> Option<ValueKind>
+    ensures { result ≡ kind_in (map (λ row. entry row.0.now row.2) table.entry.now) name.now }
 {
-    match name {
-        "--from" => Some(ValueKind::Text),
-        "--max-bytes" => Some(ValueKind::Number(0, 1_099_511_627_776)),
-        "--max-terms" => Some(ValueKind::Number(1, 4_294_967_295)),
-        "--horizon" => Some(ValueKind::Number(0, 9_223_372_036_854_775_807)),
-        "--export" => Some(ValueKind::Flag),
-        "--state" => Some(ValueKind::Flag),
-        "--side" => Some(ValueKind::Flag),
-        "--save" => Some(ValueKind::Text),
-        "--every" => Some(ValueKind::Number(1, 4_294_967_295)),
-        "--resume" => Some(ValueKind::Text),
-        _ => None,
+    while let [row, rest @ ..] = table {
+        if name == row.0 {
+            return Some(row.2);
+        }
+        table = rest;
     }
-}
-
-// The items of a drill.
-fn drill_kind(name: &str) -> Option<ValueKind>
-    ensures { result ≡ kind_in drill_table name.now }
-{
-    match name {
-        "--size" => Some(ValueKind::Number(1, 200_000)),
-        _ => None,
-    }
-}
-
-// The items of a patch stream: it numbers its records in 64 bits, so it reads fewer bytes.
-fn patches_kind(name: &str) -> Option<ValueKind>
-    ensures { result ≡ kind_in patches_table name.now }
-{
-    match name {
-        "--from" => Some(ValueKind::Text),
-        "--max-bytes" => Some(ValueKind::Number(0, 4_294_967_295)),
-        "--max-terms" => Some(ValueKind::Number(1, 4_294_967_295)),
-        "--horizon" => Some(ValueKind::Number(0, 9_223_372_036_854_775_807)),
-        "--save" => Some(ValueKind::Text),
-        "--every" => Some(ValueKind::Number(1, 4_294_967_295)),
-        "--resume" => Some(ValueKind::Text),
-        _ => None,
-    }
-}
-
-// The items of a follower.
-fn follow_kind(name: &str) -> Option<ValueKind>
-    ensures { result ≡ kind_in follow_table name.now }
-{
-    match name {
-        "--max-bytes" => Some(ValueKind::Number(0, 1_099_511_627_776)),
-        "--export" => Some(ValueKind::Flag),
-        _ => None,
-    }
-}
-
-// The items of a split.
-fn split_kind(name: &str) -> Option<ValueKind>
-    ensures { result ≡ kind_in split_table name.now }
-{
-    match name {
-        "--route" => Some(ValueKind::Text),
-        "--from" => Some(ValueKind::Text),
-        "--max-bytes" => Some(ValueKind::Number(0, 1_099_511_627_776)),
-        "--max-terms" => Some(ValueKind::Number(1, 4_294_967_295)),
-        "--horizon" => Some(ValueKind::Number(0, 9_223_372_036_854_775_807)),
-        "--save" => Some(ValueKind::Text),
-        "--every" => Some(ValueKind::Number(1, 4_294_967_295)),
-        "--resume" => Some(ValueKind::Text),
-        _ => None,
-    }
+    None
 }
 
 /// Whether an item of this kind has a value.

@@ -66,7 +66,10 @@ pub fn load<S: Source>(
     ensures most { S.most_faults file.new ≡ S.most_faults file.old }
 {
     let mut loader = Loader::new(alloc, keys, room)?;
-    match load_lines(alloc, file, &mut loader) {
+    let mut line = Vec::new(alloc);
+    let loaded = load_lines(alloc, file, &mut line, &mut loader);
+    drop(line);
+    match loaded {
         Ok(counts) => Ok(Loaded {
             world: loader.world,
             counts,
@@ -78,10 +81,11 @@ pub fn load<S: Source>(
     }
 }
 
-// Takes the lines of the file. Says the counts that go on with the world that they put together.
+// Takes the lines of the file, each in the buffer `line`. Says the counts that go on with the world that they put together.
 fn load_lines<S: Source>(
     alloc: Global,
     file: &mut S,
+    line: &mut Vec<u8>,
     loader: &mut Loader,
 ) -> Result<Counts, LoadFault>
     requires stage { loader.old.stage ≡ Unbegun }
@@ -99,10 +103,9 @@ fn load_lines<S: Source>(
     ensures most { S.most_faults file.new ≡ S.most_faults file.old }
 {
     let mut lines = Lines::with_limit(LONGEST_FILE, LONGEST_LINE);
-    let mut line = Vec::new(alloc);
     let mut given = 0;
     let mut length = 0;
-    while let Some(number) = lines.next(file, &mut line)? {
+    while let Some(number) = lines.next(file, line)? {
         take_line(alloc, line.as_slice(), number, loader)?;
         given = number;
         length = with_line(length, line.as_slice());

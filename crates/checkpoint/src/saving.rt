@@ -95,11 +95,11 @@ fn write_parts<F: Snapshots>(
 {
     let entries = world.entries();
     let lines = count_lines(lists.events.len(), entries.len(), lists.entities.len())?;
-    write_line(alloc, &Line::Head(head_of(world, counts)), out)?;
+    write_line(alloc, Line::Head(head_of(world, counts)), out)?;
     write_events(alloc, lists.events, out)?;
     write_entries(alloc, entries, out)?;
     write_records(alloc, world, lists.entities, out)?;
-    write_line(alloc, &Line::End(lines), out)
+    write_line(alloc, Line::End(lines), out)
 }
 
 // How many lines there are before the last; refused where 64 bits don't count them, which would be more than any memory has.
@@ -130,7 +130,7 @@ fn write_events<F: Snapshots>(alloc: Global, events: &[Event], out: &mut F) -> R
     ensures { Writes (flat_map (λ e. ended (Remembered e)) events.now) (archive F.Snapshots out.old) (archive F.Snapshots out.new) result }
 {
     for event in events {
-        write_line(alloc, &Line::Remembered(*event), out)?;
+        write_line(alloc, Line::Remembered(*event), out)?;
     }
     Ok(())
 }
@@ -144,7 +144,7 @@ fn write_entries<F: Snapshots>(
     ensures { Writes (flat_map (λ e. ended (Side e)) entries.now) (archive F.Snapshots out.old) (archive F.Snapshots out.new) result }
 {
     for entry in entries {
-        write_line(alloc, &Line::Side(*entry), out)?;
+        write_line(alloc, Line::Side(*entry), out)?;
     }
     Ok(())
 }
@@ -175,7 +175,7 @@ fn write_record<F: Snapshots>(
     ensures { Writes (ended (Entity id (record_of world.now.replay.played.records id))) (archive F.Snapshots out.old) (archive F.Snapshots out.new) result }
 {
     let entity = record_of(alloc, world, id)?;
-    write_line(alloc, &Line::Entity(id, entity), out)
+    write_line(alloc, Line::Entity(id, entity), out)
 }
 
 // The record of an entity, with a copy of the page that it holds.
@@ -206,11 +206,17 @@ fn held_page(alloc: Global, world: &World, id: EntityId) -> Result<Option<Held<T
 }
 
 // Writes a line, and the line feed that ends it.
-fn write_line<F: Snapshots>(alloc: Global, line: &Line, out: &mut F) -> Result<(), Unwritten>
-    ensures { Writes (ended line.now) (archive F.Snapshots out.old) (archive F.Snapshots out.new) result }
+fn write_line<F: Snapshots>(alloc: Global, line: Line, out: &mut F) -> Result<(), Unwritten>
+    ensures { Writes (ended line) (archive F.Snapshots out.old) (archive F.Snapshots out.new) result }
 {
-    let text = line_and_feed(alloc, line)?;
-    out.write(text.as_bytes())
+    let text = line_and_feed(alloc, &line);
+    drop(line);
+    let Ok(text) = text else {
+        return Err(Unwritten::OutOfMemory);
+    };
+    let written = out.write(text.as_bytes());
+    drop(text);
+    written
 }
 
 // The text of a line with its line feed.

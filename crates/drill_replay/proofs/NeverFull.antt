@@ -16,6 +16,7 @@ use Rattle.drill_replay.proofs.Named.{AreAmong, GivesThere, WorldNamed, end_name
 use Rattle.drill_replay.proofs.Roomy.{roomy}
 use Rattle.drill.specs.Drill.{IsSize, contents_of, drill}
 use Rattle.drill_replay.specs.{Playing.HasBegun, Playing.StandsAtEnd, Playing.StandsBetween, Playing.StandsWithin, Summary.replies_of}
+use Rattle.rdf_term.specs.Limits.{default_max_terms}
 
 -- ---- what is held and what waits
 
@@ -62,7 +63,7 @@ no_number : (a b c : ℕ) → a < b → b ≤ c → c ≤ a → ⊥
 no_number a b c over within enough = omega (arith, over, within, enough)
 
 -- no page that is due is too much
-pub never_over : (size limit : ℕ) (world : ReplayState) (e : Event) (bytes : Bytes) → IsSize size → HasBegun size world → 20_000_000 ≤ limit → first_due world.buffer ≡ Some e → is_fetching world e ≡ true
+pub never_over : (size limit : ℕ) (world : ReplayState) (e : Event) (bytes : Bytes) → IsSize size → HasBegun size world → default_max_terms ≤ limit → first_due world.buffer ≡ Some e → is_fetching world e ≡ true
     → contents_of size (revision_wanted world e) ≡ Some bytes → limit < room_with (meaning_by meaning []) world.played.records (meaning One e.entity (revision_wanted world e) bytes) → ⊥
 never_over size limit world e bytes is_size begun enough due wanted there over =
     let among = begun_named size world begun in

@@ -6,6 +6,7 @@ use Rattle.sorted_sets.specs.Rising.{In}
 use Rattle.sorted_sets.proofs.Members.{has-member, member-has}
 use Rattle.rdf_term.specs.{declared.term.Term.Term, declared.triple.Triple.Triple, Order.term_cmp-total}
 use Rattle.rdf_term.proofs.Texts.{term_cmp-IsAntisymmetric}
+use Rattle.rdf_term.specs.Limits.{default_max_terms}
 use Rattle.delivery.specs.{declared.Delivery.Delivery, declared.Delivery.TheVariants.Watermark}
 use Rattle.entity_model.specs.{declared.event.Event.Event, declared.event.Kind.TheVariants.Delete, declared.event.Kind.TheVariants.Edit}
 use Rattle.entity_model.specs.{declared.id.EntityId.EntityId, declared.mapping.MappingVersion.TheVariants.One}
@@ -181,7 +182,7 @@ module _ (n : ℕ) (size : IsSize n) where
       ⊎_elim (page_terms k) (λ never. absurd never)
       (in_either k (terms_by (contents_of n) (page_events (drill n)) One) [] (subst (λ vs. In k (flat_map (terms_by (contents_of n) (page_events (drill n))) vs)) vs there))
 
-  pub roomy : distinct (terms_there (contents_of n) (drill n)) ≤ 20_000_000
+  pub roomy : distinct (terms_there (contents_of n) (drill n)) ≤ default_max_terms
   roomy =
       let within = fewer term_cmp-total term_cmp-IsAntisymmetric (terms_there (contents_of n) (drill n)) all.terms
       (λ k h. has-member term_cmp-total k all.terms (told_terms k (member-has term_cmp-IsAntisymmetric k (terms_there (contents_of n) (drill n)) h))) in

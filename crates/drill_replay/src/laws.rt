@@ -7,6 +7,7 @@ ghost use Rattle.replay_model.specs.Acceptance.{version_in_force};
 ghost use Rattle.triple_store.specs.Room.{distinct};
 ghost use Rattle.drill_replay.specs.Told.{terms_there};
 ghost use Rattle.drill.specs.Drill.{IsSize, contents_of, drill};
+ghost use Rattle.rdf_term.specs.Limits.{default_max_terms};
 
 /// The first version of the mapping is in force after all deliveries of a drill, and after each first part of them.
 pub fn drill_is_by_the_first_version()
@@ -14,7 +15,7 @@ pub fn drill_is_by_the_first_version()
     ensures part { (size : ℕ) (before after : List Delivery) → drill size ≡ before ++ after → version_in_force before ≡ MappingVersion.One }
 {}
 
-/// The pages that the deliveries of a drill bring have together no more distinct terms than its world's limit, 20,000,000.
+/// The pages that the deliveries of a drill bring have together no more distinct terms than its world has room for.
 pub fn drill_has_room()
-    ensures { (size : ℕ) → IsSize size → distinct (terms_there (contents_of size) (drill size)) ≤ 20_000_000 }
+    ensures { (size : ℕ) → IsSize size → distinct (terms_there (contents_of size) (drill size)) ≤ default_max_terms }
 {}

@@ -1,6 +1,6 @@
 // What is told of a drill.
 
-ghost use Rattle.std.specs.Prelude.{◌≡◌, ◌++◌, IfOk, map, string_bytes};
+ghost use Rattle.std.specs.Prelude.{◌≡◌, ◌++◌, ◌∷◌, [], IfOk, OnOk, map, string_bytes};
 ghost use Rattle.replay_model.specs.Union.{union};
 ghost use Rattle.rdf_term.specs.Order.{triple_cmp};
 ghost use Rattle.entity_model.specs.declared.mapping.MappingVersion.TheVariants.{One};
@@ -45,14 +45,17 @@ pub fn summarize(
 {
     let kept = kept(world)?;
     let rows = rows(world)?;
+    let triples = rows.len();
+    let digest = digest(alloc, &rows);
+    drop(rows);
     Ok(Summary {
         size,
         deliveries: counts.deliveries,
         accepted: counts.accepted,
         late: counts.late,
         kept,
-        triples: rows.len(),
-        digest: digest(alloc, &rows)?,
+        triples,
+        digest: digest?,
     })
 }
 
@@ -61,14 +64,45 @@ pub fn summary_lines(alloc: Global, summary: &Summary) -> Result<Vec<String>, Ou
     ensures { IfOk result (λ lines. map (λ line. string_bytes line) lines.items ≡ summary_lines summary.now) }
 {
     let mut lines = Vec::new(alloc);
-    lines.push(number_line(alloc, "drill", u64::from(summary.size))?)?;
-    lines.push(number_line(alloc, "deliveries", summary.deliveries)?)?;
-    lines.push(number_line(alloc, "accepted", summary.accepted)?)?;
-    lines.push(number_line(alloc, "late", summary.late)?)?;
-    lines.push(number_line(alloc, "kept", summary.kept)?)?;
-    lines.push(number_line(alloc, "triples", summary.triples as u64)?)?;
-    lines.push(digest_line(alloc, &summary.digest)?)?;
-    Ok(lines)
+    match push_lines(alloc, summary, &mut lines) {
+        Ok(()) => Ok(lines),
+        Err(refused) => {
+            drop(lines);
+            Err(refused)
+        }
+    }
+}
+
+// Appends the seven lines. The list is the caller's, so that a way out of here doesn't drop it.
+fn push_lines(alloc: Global, summary: &Summary, lines: &mut Vec<String>) -> Result<(), OutOfMemory>
+    ensures { OnOk result (map (λ line. string_bytes line) lines.new.items ≡ map (λ line. string_bytes line) lines.old.items ++ summary_lines summary.now) }
+{
+    push_number(alloc, "drill", u64::from(summary.size), lines)?;
+    push_number(alloc, "deliveries", summary.deliveries, lines)?;
+    push_number(alloc, "accepted", summary.accepted, lines)?;
+    push_number(alloc, "late", summary.late, lines)?;
+    push_number(alloc, "kept", summary.kept, lines)?;
+    push_number(alloc, "triples", summary.triples as u64, lines)?;
+    push_digest(alloc, &summary.digest, lines)
+}
+
+// Appends the line of a number under a word.
+fn push_number(
+    alloc: Global,
+    word: &str,
+    number: u64,
+    lines: &mut Vec<String>,
+) -> Result<(), OutOfMemory>
+    ensures { OnOk result (map (λ line. string_bytes line) lines.new.items ≡ map (λ line. string_bytes line) lines.old.items ++ number_line word.now number ∷ []) }
+{
+    Ok(lines.push(number_line(alloc, word, number)?)?)
+}
+
+// Appends the line of the MD5.
+fn push_digest(alloc: Global, digest: &[u8; 16], lines: &mut Vec<String>) -> Result<(), OutOfMemory>
+    ensures { OnOk result (map (λ line. string_bytes line) lines.new.items ≡ map (λ line. string_bytes line) lines.old.items ++ digest_line digest.now ∷ []) }
+{
+    Ok(lines.push(digest_line(alloc, digest)?)?)
 }
 
 // The triples of all that is held, by version One of the mapping.

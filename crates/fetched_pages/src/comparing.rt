@@ -67,31 +67,31 @@ fn texts_once(
 ) -> Option<ChangedTexts>
     ensures { IfSome result (AreTextsOfParts wanted.version wanted.id known.entry.rev wanted.rev known.entry.counts changed.entry) }
 {
-    let texts = texts_of(alloc, wanted, known, &changed);
+    let texts = texts_of(alloc, wanted, known, &changed.gone, &changed.come);
     changed.discard();
     texts
 }
 
-// The triples of the parts that are gone and of those that came.
+// The triples of the part that is gone and of the one that came.
 fn texts_of(
     alloc: Global,
     wanted: Wanted,
     known: KnownPage<'_>,
-    changed: &Changed<'_>,
+    gone: &Entity,
+    come: &Entity,
 ) -> Option<ChangedTexts>
-    ensures { IfSome result (AreTextsOfParts wanted.version wanted.id known.entry.rev wanted.rev known.entry.counts changed.now) }
+    ensures { IfSome result (AreTextsOfParts wanted.version wanted.id known.entry.rev wanted.rev known.entry.counts (record { gone = gone.now; come = come.now })) }
 {
-    let gone = Counts::of(&changed.gone);
-    let counts = known.counts.after(gone, Counts::of(&changed.come))?;
+    let counts = known.counts.after(Counts::of(gone), Counts::of(come))?;
     let before = Wanted {
         id: wanted.id,
         rev: known.rev,
         version: wanted.version,
     };
-    let Ok(gone) = part_texts(alloc, before, known.counts, &changed.gone) else {
+    let Ok(gone) = part_texts(alloc, before, known.counts, gone) else {
         return None;
     };
-    let Ok(come) = part_texts(alloc, wanted, counts, &changed.come) else {
+    let Ok(come) = part_texts(alloc, wanted, counts, come) else {
         drop(gone);
         return None;
     };

@@ -17,7 +17,8 @@ ghost use Rattle.graph_routes.specs.{declared.routes.Route.Route, Routing.route_
 
 use crate::comparing::{ChangedPage, ChangedTexts, KnownPage, changed_texts};
 use crate::meaning::document_texts;
-use entity_json::{DocumentFault, discard, document};
+use entity_documents::document;
+use entity_json::{DocumentFault, discard};
 use entity_model::{Document, EntityId, MappingVersion};
 use graph_routes::{Routes, route};
 use page_rdf::Counts;
@@ -235,8 +236,8 @@ fn map_document(
     ensures fit { IsSmall document.now → IfOk result (λ mapped. AllByRecursion HasFitAndShortTerms mapped.triples) }
     ensures routed { IfOk result (λ mapped. mapped.graph ≡ option_map (λ (r : List Route). route_of r document.now) (option_copied routes.entry)) }
 {
-    let triples = document_texts(alloc, wanted.id, wanted.rev, document, wanted.version)?;
     let graph = graph_of(alloc, document, routes)?;
+    let triples = document_texts(alloc, wanted.id, wanted.rev, document, wanted.version)?;
     Ok(Mapped {
         triples,
         counts: counts_in(document),
@@ -263,10 +264,10 @@ fn graph_of(
     ensures { IfOk result (λ graph. graph ≡ option_map (λ (r : List Route). route_of r document.now) (option_copied routes.entry)) }
 {
     match routes {
-        Some(routes) => {
-            let graph = route(alloc, routes, document)?;
-            Ok(Some(graph))
-        }
+        Some(routes) => match route(alloc, routes, document) {
+            Ok(graph) => Ok(Some(graph)),
+            Err(refused) => Err(refused),
+        },
         None => Ok(None),
     }
 }

@@ -3,6 +3,7 @@ use Rattle.std.specs.Prelude.{◌≡◌, ◌⊎◌, ℕ, Bool, cond, List, [], �
 use Rattle.wq_io.specs.{Streams.IsAtEnd, Streams.after_known, declared.source.Source.Ghosts as SourceOf}
 use Rattle.wq_io.specs.declared.sink.Sink.{Ghosts as SinkOf}
 use Rattle.rdf_term.specs.declared.triple.Triple.{Triple}
+use Rattle.rdf_term.specs.Limits.{default_max_terms}
 use Rattle.replica.specs.{declared.record.PatchRecord.PatchRecord, Laws.IsGreatest, Replica.after}
 use Rattle.replay_model.specs.Transcript.{export_section}
 use Rattle.text_output.specs.{declared.write.Unwritten.Unwritten, Printing.IsCutShort, Printing.Output, Printing.output}
@@ -20,7 +21,7 @@ replica_text export applied triples = replica_line applied ++ cond export (expor
 
 -- for how many distinct terms a follower has room
 abbrev pub follower_limit : ℕ
-follower_limit = 20000000
+follower_limit = default_max_terms
 
 -- what stands at a moment
 pub record FollowMoment : Type 0 where

@@ -1,6 +1,6 @@
 // The lines of the input are taken one by one, and each record as soon as its last line was read.
 
-ghost use Rattle.std.specs.Prelude.{◌≡◌, ◌≤◌, ◌^◌, ◌∷◌, ◌++◌, [], IfErr, IfSome, List, OnOk};
+ghost use Rattle.std.specs.Prelude.{◌≡◌, ◌≤◌, ◌^◌, ◌∷◌, ◌++◌, [], IfErr, IfSome, List, None, OnOk};
 ghost use Rattle.replica.specs.{declared.record.PatchRecord.PatchRecord as TheRecord, Record.IsSound, Replica.nothing_received};
 ghost use Rattle.following.specs.{Input.input, Reading.TakesLinesByNeed, Stop.HeldUp, Stop.TakingStopped, Stop.StopsAtLine};
 ghost use Rattle.following.specs.Taking.{HasApplied, HasReceived, HasTakenRecords, IsRecordOverfull, AppliesLine, TakesRecord};
@@ -30,12 +30,36 @@ pub fn take_records<S: Source>(
     ensures later { S.faults events.old ≤ S.faults events.new }
     ensures most { S.most_faults events.new ≡ S.most_faults events.old }
 {
-    let mut lines = Lines::with_limit(max_bytes, LONGEST_LINE);
     let mut reader = PatchReader::new(alloc);
     let mut line = Vec::new(alloc);
+    let taken = take_lines(max_bytes, events, &mut line, &mut reader, replica);
+    drop(line);
+    drop(reader);
+    taken
+}
+
+// The same with a buffer for lines, and a reader that is at the start. Both are the caller's, so that a way out of here doesn't drop them.
+fn take_lines<S: Source>(
+    max_bytes: u64,
+    events: &mut S,
+    line: &mut Vec<u8>,
+    reader: &mut PatchReader,
+    replica: &mut Replica,
+) -> Result<(), FollowStop>
+    requires bytes { max_bytes ≤ 2 ^ 40 }
+    requires start { reader.old ≡ None }
+    requires new { replica.old ≡ nothing_received replica.old.limit }
+    ensures ok { OnOk result (HasTakenRecords max_bytes (input S.Source events.old) (input S.Source events.new) replica.new) }
+    ensures err { IfErr result (λ stop. TakingStopped stop max_bytes replica.old.limit (input S.Source events.old) (input S.Source events.new)) }
+    ensures taken { IfSome (S.left events.old) (λ bytes. TakesLinesByNeed max_bytes bytes (S.left events.new)) }
+    ensures limit { replica.new.limit ≡ replica.old.limit }
+    ensures later { S.faults events.old ≤ S.faults events.new }
+    ensures most { S.most_faults events.new ≡ S.most_faults events.old }
+{
+    let mut lines = Lines::with_limit(max_bytes, LONGEST_LINE);
     let mut given = 0;
-    while let Some(number) = lines.next(events, &mut line)? {
-        take_line(line.as_slice(), number, &mut reader, replica)?;
+    while let Some(number) = lines.next(events, line)? {
+        take_line(line.as_slice(), number, reader, replica)?;
         given = number;
     }
     if reader.inside() {

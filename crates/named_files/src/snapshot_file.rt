@@ -30,8 +30,15 @@ impl FileNames {
         ensures beside { IfOk result (λ names. string_bytes names.beside ≡ name.now ++ codes ".new") }
     {
         let beside = format!(in alloc; "{name}.new")?;
-        let folder = String::from_str(alloc, folder_of(name))?;
-        let name = String::from_str(alloc, name)?;
+        let Ok(folder) = String::from_str(alloc, folder_of(name)) else {
+            drop(beside);
+            return Err(OutOfMemory);
+        };
+        let Ok(name) = String::from_str(alloc, name) else {
+            drop(beside);
+            drop(folder);
+            return Err(OutOfMemory);
+        };
         Ok(FileNames {
             name,
             beside,

@@ -1,6 +1,7 @@
 pub use Rattle.base.specs.Append
 pub mod Fit
 pub mod Grammar
+pub mod Limits
 pub mod Order
 pub mod Pattern
 pub mod TagReader

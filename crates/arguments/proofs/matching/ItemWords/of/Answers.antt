@@ -11,11 +11,11 @@ use Rattle.arguments.proofs.matching.ItemWords.of.Goals as goal
 pub invariant_of-result : goal.invariant_of-result
 invariant_of-result c =
     let read : plan_of (map (λ w. string_bytes w) c.args.words.now) ≡ option_and_then (asked c.in-Some.command) (understood (table_of c.in-Some.command) (map (λ w. string_bytes w) c.in-Some.after.now)) = search rules in
-    let are = c.in_ok-fill.ensures ∙ ap (λ ws. map (λ w. string_bytes w) ws ++ name_of c.in-Some.command ∷ joined_words (items_of (table_of c.in-Some.command) (map (λ w. string_bytes w) c.in-Some.after.now))) c.new-words.ensures.items in
+    let are = c.in-Ok.ensures ∙ ap (λ ws. map (λ w. string_bytes w) ws ++ name_of c.in-Some.command ∷ joined_words (items_of (table_of c.in-Some.command) (map (λ w. string_bytes w) c.in-Some.after.now))) c.new-words.ensures.items in
     (words_made c.in-Some.command _ _ (ap is_some (sym read) ∙ c.requires) are).0
 
-pub returns : goal.returns
-returns c =
+pub returns-in-Ok : goal.returns-in-Ok
+returns-in-Ok c =
     let read : plan_of (map (λ w. string_bytes w) c.args.words.now) ≡ option_and_then (asked c.in-Some.command) (understood (table_of c.in-Some.command) (map (λ w. string_bytes w) c.in-Some.after.now)) = search rules in
-    let are = c.in_ok-fill.ensures ∙ ap (λ ws. map (λ w. string_bytes w) ws ++ name_of c.in-Some.command ∷ joined_words (items_of (table_of c.in-Some.command) (map (λ w. string_bytes w) c.in-Some.after.now))) c.new-words.ensures.items in
+    let are = c.in-Ok.ensures ∙ ap (λ ws. map (λ w. string_bytes w) ws ++ name_of c.in-Some.command ∷ joined_words (items_of (table_of c.in-Some.command) (map (λ w. string_bytes w) c.in-Some.after.now))) c.new-words.ensures.items in
     (words_made c.in-Some.command _ _ (ap is_some (sym read) ∙ c.requires) are).1 ∙ sym read

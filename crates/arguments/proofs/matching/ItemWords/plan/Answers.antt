@@ -10,7 +10,7 @@ unreachable-requires c =
     let are : AreItemWords c.self.inside.command (map (λ w. string_bytes w) c.as_slice.result.now) = rw c.as_slice.ensures.value c.self.invariant in
     let read = c.in_ok-request.ensures are in
     let is : plan_of (map (λ w. string_bytes w) c.as_slice.result.now) ≡ c.args.self.now = rw c.as_slice.ensures.value c.self.view_is in
-    let none = c.in-None.ensures.value ∙ plan_again c.self.inside.command _ are _ _ read.0 read.1 ∙ is in
+    let none = sym c.in-None.is ∙ c.asked-plan.ensures.value ∙ plan_again c.self.inside.command _ are _ _ read.0 read.1 ∙ is in
     true≢false (sym c.requires ∙ ap is_some (sym none))
 
 pub returns-clause-value : goal.returns-clause-value
@@ -18,4 +18,4 @@ returns-clause-value c =
     let are : AreItemWords c.self.inside.command (map (λ w. string_bytes w) c.as_slice.result.now) = rw c.as_slice.ensures.value c.self.invariant in
     let read = c.in_ok-request.ensures are in
     let is : plan_of (map (λ w. string_bytes w) c.as_slice.result.now) ≡ c.args.self.now = rw c.as_slice.ensures.value c.self.view_is in
-    sym (c.in-Some.ensures.value ∙ plan_again c.self.inside.command _ are _ _ read.0 read.1 ∙ is)
+    sym (sym c.in-Some.is ∙ c.asked-plan.ensures.value ∙ plan_again c.self.inside.command _ are _ _ read.0 read.1 ∙ is)

@@ -17,7 +17,7 @@ returns-clause-keys g c =
     let p = c.locate-position.result in
     let i = index_of gs p.group p.block in
     c.from_vec-2.ensures
-    ∙ taken_whole g.K.Ranked.cmp c.args.to (keys_from (keys_of gs) i p.at) c.new-keys.result.items c.take_from.new.taken.items _ c.new-keys.ensures.items c.in_ok-take_from.ensures.takes
+    ∙ taken_whole g.K.Ranked.cmp c.args.to (keys_from (keys_of gs) i p.at) c.new-keys.result.items c.take_from.new.taken.items _ c.new-keys.ensures.items c.in_ok-take_from.ensures.0
     ∙ sym (range_is g.met.K.Ranked.total c.args.from c.args.to (keys_of gs) i p.at p.found c.locate-position.ensures.stands
     (subst (λ hs. IsRising g.K.Ranked.cmp (keys_of (keys_of hs))) (sym c.as_slice-groups.ensures.value) c.self.invariant.index.rising))
     ∙ ap (λ bs. keys_between g.K.Ranked.cmp c.args.from c.args.to (keys_of bs)) (ap keys_of c.as_slice-groups.ensures.value ∙ c.self.view_is)
@@ -31,10 +31,10 @@ returns-in_err-take_from-clause-cost g c =
     let same = sym (range_is g.met.K.Ranked.total c.args.from c.args.to (keys_of gs) i p.at p.found c.locate-position.ensures.stands
     (subst (λ hs. IsRising g.K.Ranked.cmp (keys_of (keys_of hs))) (sym c.as_slice-groups.ensures.value) c.self.invariant.index.rising))
     ∙ ap (keys_between g.K.Ranked.cmp c.args.from c.args.to) all in
-    let few = subst (λ ks. (g.C.StepCounter.total c.take_from.new.steps) ≤ (g.C.StepCounter.total c.locate-position.new.steps) + length ks) same c.in_err-take_from.ensures.refused in
+    let few = subst (λ ks. (g.C.StepCounter.total c.take_from.new.steps) ≤ (g.C.StepCounter.total c.locate-position.new.steps) + length ks) same c.in_err-take_from.ensures.0 in
     let long = ap length all in
     let found = c.locate-position.ensures.cost in
-    let forth = c.in_err-take_from.ensures.forward in
+    let forth = c.in_err-take_from.ensures.1 in
     let start = found.0 in
     (omega arith, λ d below. let most = found.1 d (omega arith) in omega arith)
 
@@ -44,14 +44,15 @@ returns-clause-cost g c =
     let p = c.locate-position.result in
     let i = index_of gs p.group p.block in
     let all = ap keys_of (ap keys_of c.as_slice-groups.ensures.value ∙ c.self.view_is) in
-    let same = taken_whole g.K.Ranked.cmp c.args.to (keys_from (keys_of gs) i p.at) c.new-keys.result.items c.take_from.new.taken.items _ c.new-keys.ensures.items c.in_ok-take_from.ensures.takes
+    let same = taken_whole g.K.Ranked.cmp c.args.to (keys_from (keys_of gs) i p.at) c.new-keys.result.items c.take_from.new.taken.items _ c.new-keys.ensures.items c.in_ok-take_from.ensures.0
     ∙ sym (range_is g.met.K.Ranked.total c.args.from c.args.to (keys_of gs) i p.at p.found c.locate-position.ensures.stands
     (subst (λ hs. IsRising g.K.Ranked.cmp (keys_of (keys_of hs))) (sym c.as_slice-groups.ensures.value) c.self.invariant.index.rising))
     ∙ ap (keys_between g.K.Ranked.cmp c.args.from c.args.to) all in
     let as_many = ap length same in
     let none = ap length c.new-keys.ensures.items in
     let long = ap length all in
-    let cost = c.in_ok-take_from.ensures.cost in
+    let cost = c.in_ok-take_from.ensures.1 in
+    let forth = c.in_ok-take_from.ensures.2 in
     let one = one_more c.in_ok-take_from.field-0 in
     let found = c.locate-position.ensures.cost in
     let start = found.0 in
