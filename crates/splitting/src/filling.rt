@@ -14,7 +14,8 @@ ghost use Rattle.splitting.specs.Filling.{AreAmong, HaveEntries, IsReadyFor, ent
 ghost use Rattle.splitting.specs.Graphs.{AreEntriesOf};
 
 use crate::graphs::{Graphs, set};
-use entity_json::{DocumentFault, discard, document};
+use entity_documents::document;
+use entity_json::{DocumentFault, discard};
 use entity_model::{Document, EntityId};
 use entity_rdf::direct_texts;
 use graph_routes::{Routes, route};
