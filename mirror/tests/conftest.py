@@ -201,6 +201,16 @@ def stored(home: pathlib.Path) -> list[str]:
     return sorted(found)
 
 
+def gaps_of(home: pathlib.Path) -> list[tuple[str, str, int]]:
+    """All gaps that a home has noted: when they began and ended, and whether they are healed."""
+    import sqlite3
+
+    base = sqlite3.connect(home / "state.db")
+    found = base.execute("SELECT began, ended, healed FROM gaps ORDER BY number").fetchall()
+    base.close()
+    return found
+
+
 def settle(mirror: Mirror, wiki: Wiki) -> None:
     """Takes batches until the store has what the wiki has at the end. Without a delay, so that the last seconds don't wait."""
     mirror.set(delay_seconds=0)

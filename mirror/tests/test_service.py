@@ -10,7 +10,7 @@ import time
 import typing
 import urllib.request
 
-from conftest import PYTHON, TESTS, Mirror, Wiki, children_of, free_port, settle
+from conftest import PYTHON, TESTS, Mirror, Wiki, children_of, free_port, gaps_of, settle
 
 from wdq_mirror import snapshot
 
@@ -87,6 +87,26 @@ def test_a_gap_while_the_service_runs(wiki: Wiki, mirror: Mirror) -> None:
         assert wait_for(lambda: figure(port, "gap") == 0 and figure(port, "mark") > mark)
     settle(mirror, wiki)
     mirror.good("verify")
+
+
+def test_a_gap_before_the_service_runs(wiki: Wiki, mirror: Mirror) -> None:
+    """The stream begins after the dump; the service is killed before the wiki says what came between."""
+    wiki.control(oldest=wiki.control()["end"] - 20, is_mute=1)
+    mirror.init(wiki).load(wiki)
+    mirror.set(delay_seconds=0, tries=1, pause_seconds=0.2)
+    port = free_port()
+    words = ("--http", f"127.0.0.1:{port}")
+    with running(mirror, *words) as child:
+        assert wait_for(lambda: figure(port, "gap") == 1 and figure(port, "events_total") > 10)
+        assert figure(port, "mark") == 0
+        child.kill()
+    with running(mirror, *words):
+        assert wait_for(lambda: figure(port, "gap") == 1)
+        wiki.control(is_mute=0)
+        assert wait_for(lambda: figure(port, "gap") == 0 and figure(port, "mark") > 0)
+    settle(mirror, wiki)
+    mirror.good("verify")
+    assert [is_healed for _, _, is_healed in gaps_of(mirror.home)] == [1]
 
 
 def test_ctrl_c(wiki: Wiki, mirror: Mirror) -> None:

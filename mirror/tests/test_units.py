@@ -11,7 +11,7 @@ import pytest
 from conftest import Mirror
 
 from wdq_mirror import articles, asking, counts, errors, event_lines, figures, healing, home, inquiries, loading, outbox, records, sending, settings
-from wdq_mirror import snapshot, spelling, stores, stream, terms, times, verifying
+from wdq_mirror import snapshot, spelling, stores, terms, times, verifying
 from wdq_mirror.stores import sparql
 
 DECIMAL = "http://www.w3.org/2001/XMLSchema#decimal"
@@ -302,45 +302,7 @@ def test_what_the_wiki_says_to_the_service_comes_behind_what_was_known(tmp_path:
     assert found == {"Q1": "2024-05-01T10:00:08Z", "Q2": "2024-05-01T10:00:00.000001Z"}
 
 
-# --- The stream ---
-
-
-def offset(*numbers: int) -> str:
-    """A place with offsets."""
-    import json
-
-    return json.dumps([{"topic": f"t{index}", "partition": 0, "offset": number} for index, number in enumerate(numbers)])
-
-
-@pytest.mark.parametrize(
-    ("before", "after", "passed", "gap"),
-    [
-        (offset(5), offset(6), 3600, False),
-        (offset(5), offset(7), 1, True),
-        (offset(5), offset(5), 1, False),
-        (offset(5, -1), offset(9, 3), 1, True),
-        ('[{"topic":"t","timestamp":1}]', '[{"topic":"t","timestamp":2}]', 5, False),
-        ('[{"topic":"t","timestamp":1}]', '[{"topic":"t","timestamp":2}]', 11, True),
-        ("", offset(4), 11, True),
-    ],
-)
-def test_gaps(before: str, after: str, passed: int, gap: bool) -> None:
-    message = stream.Message(after, 1_000_000_000 + passed * 1_000_000, None)
-    assert stream.is_gap(before, 1_000_000_000, message, 10) is gap
-
-
-def test_messages_of_server_sent_events() -> None:
-    parser = stream.Messages()
-    found = [told for line in ("id: 7", "data: a", "data:b", "", ": heartbeat", "", "event: error", "data: x", "") if (told := parser.take(line))]
-    assert found == [("a\nb", "7")]
-
-
-def test_the_changes_of_one_wiki() -> None:
-    change = {"wiki_id": "testwikidatawiki", "page_change_kind": "edit", "dt": "2024-05-01T10:00:05Z", "revision": {"rev_id": 7}}
-    change["page"] = {"page_title": "Q5", "namespace_id": 0}
-    assert stream.event_of(change, settings.Settings()) is None
-    found = stream.event_of(change, settings.parse('[wiki]\nname = "testwikidatawiki"'))
-    assert found == {"kind": "edit", "entity": "Q5", "rev": 7, "time": "2024-05-01T10:00:05Z"}
+# --- Records that go out ---
 
 
 def test_a_record_that_is_alone_does_not_wait(tmp_path: pathlib.Path) -> None:

@@ -8,7 +8,7 @@ import time
 import typing
 import urllib.request
 
-from conftest import Mirror, Wiki, export_of, settle, stored
+from conftest import Mirror, Wiki, export_of, gaps_of, settle, stored
 
 
 def test_a_step_without_counts(wiki: Wiki, mirror: Mirror, endpoint: str) -> None:
@@ -90,6 +90,22 @@ def test_a_gap_that_the_wiki_does_not_mend(wiki: Wiki, mirror: Mirror) -> None:
     mirror.set(site=wiki.site, tries=6)
     assert "gaps healed: 1" in mirror.good("heal")
     assert "heal mends it" not in mirror.good("status")
+
+
+def test_a_stream_that_begins_after_the_dump(wiki: Wiki, mirror: Mirror) -> None:
+    """What came between is asked for, until the wiki answers; then once."""
+    wiki.control(oldest=wiki.control()["end"] - 20, is_mute=1)
+    mirror.init(wiki).load(wiki)
+    mirror.set(tries=1)
+    for _ in range(2):
+        assert mirror.run("step", "--idle", "1") == 5 and "run wdq-mirror heal later" in mirror.told
+        ((began, ended, is_healed),) = gaps_of(mirror.home)
+        assert began < wiki.began < ended and not is_healed
+    wiki.control(is_mute=0)
+    mirror.step()
+    settle(mirror, wiki)
+    mirror.good("verify")
+    assert gaps_of(mirror.home) == [(began, ended, 1)]
 
 
 def test_a_gap_that_the_wiki_has_forgotten(wiki: Wiki, mirror: Mirror) -> None:

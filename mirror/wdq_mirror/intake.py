@@ -7,7 +7,7 @@ import typing
 from .home import Home
 from .outbox import say
 from .stepping import place_of
-from .stream import Message, Stream, is_gap
+from .stream import Message, Stream
 from .times import now, text_of
 from .wiki import Wiki
 
@@ -29,12 +29,12 @@ class Intake:
 
     async def run(self) -> None:
         """Puts messages into the queue for ever, and notes gaps."""
-        place, seen = self.place, self.seen
+        seen = self.seen
         async for message, is_first in self.stream.messages():
-            if is_first and place and is_gap(place, seen, message, self.words.wiki.silence_seconds):
-                self.home.note_gap(seen, message.time)
-                say(f"the stream has a gap from {text_of(seen)} to {text_of(message.time)}; asks the wiki")
-            place, seen = message.place or place, max(seen, message.time)
+            if is_first and (gap := self.stream.gap_before(seen, message)):
+                self.home.note_gap(*gap)
+                say("the stream has a gap from {} to {}; asks the wiki".format(*map(text_of, gap)))
+            seen = max(seen, message.time)
             await self.inbox.put(message)
 
     async def wait(self, seconds: float) -> typing.Optional[Message]:

@@ -67,7 +67,7 @@ class Wiki:
     agent: str = about("", 'who asks, as "mirror/1.0 (jane@example.org)"')
     delay_seconds: int = about(10, "how many seconds the watermark stays behind the stream; an event that comes later than that is late, and the wiki is asked about it")
     history_days: int = about(30, "how many days the wiki remembers its changes, to heal gaps; 0: for ever")
-    silence_seconds: int = about(10, "where the stream has no offsets, a reconnection that passes over more than so many seconds of it is a gap")
+    silence_seconds: int = about(10, "where the stream has no offsets, and at the first connection, passing over more than so many seconds of it is a gap")
     late_seconds: int = about(600, "gaps are healed from so many seconds before they began to so many after they ended, since a gap may hide late events")
     fetches: int = about(4, "how many pages are fetched at a time")
     tries: int = about(6, "how often a request is made where the wiki is busy")

@@ -15,7 +15,7 @@ from .home import Era, GapRow, Home
 from .pages import Pages
 from .program import Program
 from .stores import Store
-from .stream import Stream, is_gap, line_of
+from .stream import Stream, line_of
 from .times import micros, now, text_of
 from .wiki import Wiki
 
@@ -26,12 +26,12 @@ KINDS = ("kind", "watermark", "mapping")
 
 @dataclasses.dataclass
 class Batch:
-    """Events of the stream, where they end, and the gap that was among them."""
+    """Events of the stream, where they end, and the gaps that were before and among them."""
 
     lines: list[str]
     place: str
     seen: int
-    gap: typing.Optional[tuple[int, int]] = None
+    gaps: list[tuple[int, int]] = dataclasses.field(default_factory=list)
 
 
 @dataclasses.dataclass
@@ -74,8 +74,8 @@ async def collect(home: Home, wiki: Wiki, limits: Limits) -> Batch:
                 message, is_first = await asyncio.wait_for(messages.__anext__(), min(rest, limits.idle))
             except asyncio.TimeoutError:
                 break
-            if is_first and batch.place and is_gap(batch.place, batch.seen, message, home.settings.wiki.silence_seconds):
-                batch.gap = (batch.seen, message.time)
+            if is_first and (gap := stream.gap_before(batch.seen, message)):
+                batch.gaps.append(gap)
             batch.place, batch.seen = message.place or batch.place, max(batch.seen, message.time)
             if message.event:
                 batch.lines.append(line_of(message.event))
@@ -87,17 +87,19 @@ async def collect(home: Home, wiki: Wiki, limits: Limits) -> Batch:
 
 
 def keep_batch(home: Home, number: int, front: list[Event], batch: Batch) -> None:
-    """Writes the events of an era, closed by a watermark, and then where the stream goes on."""
+    """Keeps gaps, writes the events of an era, closed by a watermark, and then keeps where the stream goes on. Gaps come first: once the events
+    are there, the next step may begin behind them."""
     delay = home.settings.wiki.delay_seconds * 1_000_000
     lines = [line_of(event) for event in front] + batch.lines
     if batch.seen:
         lines.append(line_of({"watermark": text_of(batch.seen - delay)}))
     events = home.file("events", number)
+    with home.transaction():
+        for gap in batch.gaps:
+            home.note_gap(*gap)
     files.save(events, "".join(line + "\n" for line in lines).encode())
     with home.transaction():
         home.keep_place(batch.place, batch.seen, events)
-        if batch.gap:
-            home.note_gap(*batch.gap)
 
 
 def take_file(home: Home, number: int, front: list[Event], path: pathlib.Path) -> None:

@@ -95,7 +95,7 @@ def offsets(place: str) -> dict[tuple[str, int], int]:
 
 
 def is_gap(before: str, seen: int, message: Message, silence: int) -> bool:
-    """Whether the stream has lost messages between a place and the first message behind a reconnection.
+    """Whether the stream has lost messages between a place and the first message behind a connection.
 
     Where both name offsets of a topic, the next one has to follow. Else a leap in time tells.
     """
@@ -116,6 +116,12 @@ class Stream:
         self.heard = self.connected = 0.0
         # Whether the stream has said since the last message that it has no more.
         self.is_quiet = False
+
+    def gap_before(self, seen: int, message: Message) -> typing.Optional[tuple[int, int]]:
+        """The times round what the stream has lost before the first message behind a connection, where it has; `seen` is the greatest time so far.
+        Where there is no place yet, messages were due from the time on from which the mirror follows the stream."""
+        before = seen if self.place or not self.since else max(seen, micros(self.since))
+        return (before, message.time) if is_gap(self.place, before, message, self.settings.wiki.silence_seconds) else None
 
     def request(self) -> dict[str, typing.Any]:
         """Where to go on."""
