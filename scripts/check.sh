@@ -105,7 +105,7 @@ find_scripts() {
 # Runs the mirror's tests that need neither a wiki nor a store, by the system's Python.
 check_mirror() {
   if /usr/bin/python3 -c 'import aiohttp, pytest' 2>/dev/null; then
-    check_program mirror 240 '' /usr/bin/python3 -m pytest -q -p no:cacheprovider mirror/tests/test_units.py mirror/tests/test_lines.py mirror/tests/test_packages.py
+    check_program mirror 240 '' /usr/bin/python3 -m pytest -q -p no:cacheprovider mirror/tests/test_{units,stream,lines,packages}.py
   else
     pass_over mirror 'python3-pytest or python3-aiohttp is missing'
   fi

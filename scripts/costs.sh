@@ -5,17 +5,18 @@
 #                                       and the longest chain of crates that wait for one another
 #   scripts/costs.sh --again [ROWS]     the same tables of the last run, which stand in out/costs.txt
 #   scripts/costs.sh --functions CRATE [ROWS]   the dearest functions of a crate
+#   scripts/costs.sh --sizes CRATE [ROWS]       the largest functions of a built library, with no check: the larger, the dearer
 #
 # The first runs `rt ci --anew` in this checkout, an hour on four processors, and looks at its processes twice a second, so it misses up
-# to half a second of each. The last proves the crates below and then checks the crate from nothing by one processor; a function takes the
-# time until its files were written. Needs the Rattle kit, `rt` on PATH. Ends with 1 if something isn't proved, and with 2 if it can't run.
+# to half a second of each. `--functions` proves the crates below and then checks the crate from nothing by one processor; a function takes
+# the time until its files were written. Needs the Rattle kit, `rt` on PATH, and `--sizes` jq. Ends with 1 if something isn't proved, and with 2 if it can't run.
 top=$(cd "$(dirname "$(readlink -f "${BASH_SOURCE[0]}")")/.." && pwd) || exit 2
 measured=$top/out/costs.txt
 # Of each process: its crate and part, and the hundredths of a second that it has used.
 declare -A names=() used=()
 
 usage() {
-  sed -n '2,12s/^# \{0,1\}//p' "${BASH_SOURCE[0]}"
+  sed -n '2,13s/^# \{0,1\}//p' "${BASH_SOURCE[0]}"
 }
 
 give_up() {
@@ -178,6 +179,15 @@ measure_functions() {
   print_functions "$rows" "$crate" "$begun"
 }
 
+# Prints the largest functions of a library that is built, in kilobytes of what they are compiled to.
+print_sizes() {
+  local crate=$1 rows=$2 built=$top/crates/$1/out/rlib/$1.rlib/toolchain/mir.json
+  command -v jq >/dev/null || give_up 'jq is missing'
+  [ -e "$built" ] || give_up "$built isn't there: run 'rt lib' in crates/$crate first"
+  printf '| Function | kB |\n|---|---|\n'
+  jq -r '.[] | "\(.[1].body | tojson | length) \(.[0])"' "$built" | sort -rn | awk -v rows="$rows" 'NR <= rows { printf "| `%s` | %.1f |\n", $2, $1 / 1000 }'
+}
+
 # Ends where the words are not understood.
 refuse_words() {
   usage >&2
@@ -189,12 +199,17 @@ case $#-${1-} in
   *--h | *---help) usage && exit 0 ;;
   *---again) action=again && shift ;;
   [23]---functions) action=functions crate=$2 && shift 2 ;;
+  [23]---sizes) action=sizes crate=$2 && shift 2 ;;
 esac
 rows=${1-12}
 [[ $# -le 1 && $rows =~ ^[1-9][0-9]{0,3}$ ]] || refuse_words
 if [ "$action" = again ]; then
   [ -s "$measured" ] || give_up "$measured isn't there: run scripts/costs.sh first"
   print_tables "$rows"
+  exit
+fi
+if [ "$action" = sizes ]; then
+  print_sizes "$crate" "$rows"
   exit
 fi
 command -v rt >/dev/null || give_up "the Rattle toolchain's command 'rt' is not on PATH; README.md names the kit"

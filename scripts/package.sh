@@ -55,11 +55,11 @@ put_programs() {
   "$top/mirror/manual.py" bash >"$completions/wdq-mirror"
 }
 
-# Puts the documents, and the rules and the dashboard of Prometheus and Grafana, below a folder.
+# Puts the documents, the path for readers in Virtuoso, and the rules and the dashboard of Prometheus and Grafana below a folder.
 put_documents() {
   local folder=$1
   install -d "$folder/watching" "$folder/pages"
-  install -m 644 "$top/README.md" "$folder/"
+  install -m 644 "$top/README.md" "$top/mirror/virtuoso-read.sql" "$folder/"
   install -m 644 "$top"/docs/*.md "$folder/pages/"
   install -m 644 "$top"/mirror/watching/* "$folder/watching/"
 }
@@ -103,7 +103,7 @@ put_debian() {
     "Installed-Size: $(du -k --apparent-size -s "$tree" | cut -f 1)" "Depends: $(libraries "$program"), adduser, python3 (>= 3.11), python3-aiohttp" \
     'Recommends: python3-rdflib' 'Suggests: prometheus, virtuoso-opensource' 'Section: database' 'Priority: optional' \
     'Description: mirror of the triples of Wikidata' \
-    ' wdq keeps a store of Wikidata'"'"'s triples in step with edits: it applies' ' events to pages, and prints each change of the triples as a record.' \
+    ' wdq keeps a store of Wikidata'"'"'s triples in step with edits: it maps the' ' edited pages to RDF, and prints each change of the triples as a record.' \
     ' wdq-mirror loads a dump, follows the stream of changes, and keeps a' ' SPARQL store in step by these records.' >"$tree/DEBIAN/control"
 }
 
@@ -117,7 +117,7 @@ make_library_package() {
   printf '%s\n' "Package: $name" 'Source: wdq' "Version: $version" "Architecture: $architecture" "Maintainer: $maintainer" \
     "Installed-Size: $(du -k --apparent-size -s "$tree" | cut -f 1)" "Section: $section" 'Priority: optional' "$@" \
     "Description: replays of edits of Wikidata over pages in memory$about" \
-    ' The library has one call: it applies events to pages that the caller lends,' \
+    ' The library has one call: it replays events over pages that the caller lends,' \
     ' and gives the triples, the states and the side output that follow.' >"$tree/DEBIAN/control"
   find "$tree" -exec touch -h -d "@$SOURCE_DATE_EPOCH" {} +
   dpkg-deb --root-owner-group -Zxz --build "$tree" "$room/out/${name}_${version}_$architecture.deb" >/dev/null
