@@ -5,9 +5,8 @@
 
 use anyhow::{Context, Result, bail};
 use entity_model::{EntityId, Event, Kind, Unfit};
-use entity_state::Mode;
+use entity_state::{Cause, Entry, Mode};
 use rdf_term::{OutOfMemory, Pattern, Term, Triple, TripleSet};
-use side_output::{Cause, Entry};
 use std::alloc::{AllocError, Global};
 use std::str;
 use term_reading::read_term;

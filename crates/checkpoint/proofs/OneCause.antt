@@ -11,8 +11,8 @@ use Rattle.world.specs.{Roomed.room_with, WorldState.WorldState}
 use Rattle.snapshot.specs.{declared.line.Line.Line, File.lines_in, LineText.line_of}
 use Rattle.snapshot.specs.declared.line.Line.TheVariants.{Head as Begins, Remembered, Entity, Side, End}
 use Rattle.snapshot.specs.Whole.{Loading, Saved, after_line, unbegun}
-use Rattle.checkpoint.specs.declared.loader.Stage.{Stage}
-use Rattle.checkpoint.specs.declared.loader.Stage.TheVariants.{Unbegun, Begun, Ended}
+use Rattle.checkpoint.specs.declared.stage.Stage.{Stage}
+use Rattle.checkpoint.specs.declared.stage.Stage.TheVariants.{Unbegun, Begun, Ended}
 use Rattle.checkpoint.specs.Causes.{IsBadSnapshotLine, IsFileOverfull}
 use Rattle.checkpoint.specs.Loading.{BeginsWith, HasNoRoomForLine, IsOutOfPlace, IsReadable, IsRefused, LacksRoom, Leads, MayCome, loading_of, longest_line}
 use Rattle.checkpoint.specs.Saved.{saved_of}

@@ -5,7 +5,7 @@ use Rattle.world.specs.WorldState.{WorldState}
 use Rattle.snapshot.specs.{File.feeds, Whole.Loading, Whole.whole}
 use Rattle.checkpoint.specs.declared.fault.LoadFault.{LoadFault}
 use Rattle.checkpoint.specs.declared.fault.LoadFault.TheVariants.{ReadFault, TooLong, BadLine, Full, OutOfMemory}
-use Rattle.checkpoint.specs.declared.loader.Stage.{Stage}
+use Rattle.checkpoint.specs.declared.stage.Stage.{Stage}
 use Rattle.checkpoint.specs.Loading.{BeginsWith, IsReady, IsRefused, Overfills, loading_of, longest_line}
 
 -- the most bytes that a file may have

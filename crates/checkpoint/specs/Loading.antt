@@ -4,8 +4,8 @@ use Rattle.std.specs.Str.{IsUtf8}
 use Rattle.entity_model.specs.{declared.id.EntityId.EntityId, declared.event.Event.Event, Event.event_cmp}
 use Rattle.reorder_buffer.specs.{Buffered.Buffered, Buffered.first_due, Watermarks.reached}
 use Rattle.sorted_sets.specs.Rising.{Each, IsRising, has}
-use Rattle.side_output.specs.declared.entry.Cause.TheVariants.{Missing, Failed, Unfit}
-use Rattle.side_output.specs.{declared.entry.Entry.Entry, declared.entry.Entry.TheVariants.Late, declared.entry.Entry.TheVariants.Revision}
+use Rattle.entity_state.specs.declared.entry.Cause.TheVariants.{Missing, Failed, Unfit}
+use Rattle.entity_state.specs.{declared.entry.Entry.Entry, declared.entry.Entry.TheVariants.Late, declared.entry.Entry.TheVariants.Revision}
 use Rattle.replay_model.specs.{Entries.HoldsUnlessOpen, Explained.is_applied, Replies.HoldsDocument, Replies.failed_events}
 use Rattle.replay_model.specs.{Records.Records, Records.record_of, ReplayState.nothing_delivered, Union.triples_held}
 use Rattle.replay_model.specs.Versions.{all_by, meaning_by}
@@ -18,8 +18,8 @@ use Rattle.snapshot.specs.declared.line.Line.TheVariants.{Head as Begins, Rememb
 use Rattle.snapshot.specs.{File.IsFitSaved, File.lines_in, Waiting.IsAtRest, LineText.line_of}
 use Rattle.snapshot.specs.Whole.{Loading, unbegun, begun, ended as whole_of, after_line, beginning}
 use Rattle.snapshot.specs.declared.counts.Counts.{Counts}
-use Rattle.checkpoint.specs.declared.loader.Stage.{Stage}
-use Rattle.checkpoint.specs.declared.loader.Stage.TheVariants.{Unbegun, Begun, Ended}
+use Rattle.checkpoint.specs.declared.stage.Stage.{Stage}
+use Rattle.checkpoint.specs.declared.stage.Stage.TheVariants.{Unbegun, Begun, Ended}
 use Rattle.checkpoint.specs.Saved.{AreWithin, saved_of}
 
 -- what the lines so far keep, where they put this world together, and so many were taken

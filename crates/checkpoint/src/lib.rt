@@ -1,20 +1,16 @@
-//! A checkpoint: a world between two lines of its input is written as a snapshot, and read back.
+//! A checkpoint: what a snapshot keeps of a world between two lines of its input.
 //!
-//! `snapshots` is where snapshots are kept, and `memory` keeps them in memory. `saving` writes one, in the format of the crate `snapshot`.
-//! `loading` reads the lines of a source, and `loader` puts each into a world, where it may come; `fault` says why nothing was loaded. The
-//! crate `checkpoint_laws` says that what is loaded is what was saved, of which no line is refused.
+//! `snapshots` is where snapshots are kept, and `memory` keeps them in memory. `stage` is how far the lines of one have come that is loaded,
+//! and `fault` why nothing was loaded. The definitions say which lines may come, which world they put together, and why a file isn't loaded.
+//! The crate `world_snapshots` writes snapshots and loads them; `written_laws` says that what is loaded is what was saved.
 #![tactic(auto)]
 
 mod fault;
-mod loader;
-mod loading;
 mod memory;
-mod saving;
 mod snapshots;
+mod stage;
 
 pub use fault::LoadFault;
-pub use loader::Stage;
-pub use loading::{Loaded, load};
 pub use memory::MemorySnapshots;
-pub use saving::save;
 pub use snapshots::Snapshots;
+pub use stage::Stage;

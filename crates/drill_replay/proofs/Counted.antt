@@ -22,7 +22,7 @@ use Rattle.statement_rdf.specs.Statements.{statements_triples}
 use Rattle.sitelinks.specs.Article.{article_triples}
 use Rattle.page_rdf.specs.{Dataset.dataset_term, Spoken.spoken_triples}
 use Rattle.entity_rdf.specs.Dump.{entity_triples}
-use Rattle.drill.specs.Drill.{item}
+use Rattle.drill_replay.specs.Drill.{item}
 use Rattle.drill_replay.proofs.Parts.{HasNone, IsLabelled, IsSourced}
 use Rattle.drill_replay.proofs.Covered.{Covered, at_most, joined, none, own, said}
 

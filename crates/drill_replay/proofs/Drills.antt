@@ -9,7 +9,7 @@ use Rattle.sorted_sets.proofs.FirstPassing.{shorter_without}
 use Rattle.replay_model.specs.Play.{Replies}
 use Rattle.replay_model.specs.ReplayState.{ReplayState, after_applying, after_due, after_end, after_next, after_some, following, nothing_delivered}
 use Rattle.replay_model.proofs.Following.{after_due-none, after_due-some, following-end}
-use Rattle.drill.specs.Drill.{deletion, item_deliveries, drill, edits, late_edit}
+use Rattle.drill_replay.specs.Drill.{deletion, item_deliveries, drill, edits, late_edit}
 use Rattle.drill_replay.specs.Playing.{HasBegun, IsPartOf, StandsBetween, StandsWithin}
 use Rattle.drill_replay.specs.Summary.{drilled, replies_of}
 

@@ -15,3 +15,4 @@ pub mod Applying
 pub mod Fits
 pub mod Gathered
 pub mod Named
+pub mod Lengths

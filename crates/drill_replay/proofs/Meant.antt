@@ -9,7 +9,7 @@ use Rattle.entity_json.specs.{declared.page.Page.Page, Document.document_of, Pag
 use Rattle.entity_json.proofs.Fitness.{documents}
 use Rattle.entity_rdf.specs.Dump.{dump}
 use Rattle.fetched_pages.specs.Meaning.{meaning, triples_if}
-use Rattle.drill.specs.Drill.{earlier_page, item, later_page}
+use Rattle.drill_replay.specs.Drill.{earlier_page, item, later_page}
 use Rattle.drill_replay.specs.Trees.{earlier_tree, later_tree}
 use Rattle.drill_replay.proofs.{Counted.stated, Counted.unstated, Covered.Covered, Covered.at_most, Covered.left, Covered.none}
 use Rattle.drill_replay.proofs.Pages.{earlier_read, later_read}

@@ -9,7 +9,7 @@ use Rattle.delivery.specs.declared.Delivery.TheVariants.{Event as Told, Watermar
 use Rattle.entity_state.specs.{declared.state.State.State, declared.record.Held.Held, declared.record.Record.Record}
 use Rattle.entity_state.specs.State.{after_kind, deleted, is_deleted, is_kept, kept, state_after}
 use Rattle.entity_state.specs.Record.{held_revision, wants}
-use Rattle.side_output.specs.{declared.entry.Cause.Cause, declared.entry.Cause.TheVariants.Failed}
+use Rattle.entity_state.specs.{declared.entry.Cause.Cause, declared.entry.Cause.TheVariants.Failed}
 use Rattle.reorder_buffer.specs.declared.taken.Taken.{Taken}
 use Rattle.reorder_buffer.specs.declared.taken.Taken.TheVariants.{New, Repeat, Late}
 use Rattle.reorder_buffer.specs.{Watermarks.is_due, Buffered.after_answer, Buffered.answer_to, Buffered.first_due}

@@ -14,7 +14,7 @@ use Rattle.world.specs.Roomed.{room_with}
 use Rattle.drill_replay.proofs.Fits.{fits}
 use Rattle.drill_replay.proofs.Named.{AreAmong, GivesThere, WorldNamed, end_named, entered_named, first_among, following_named, last_among, some_named, source_gives, wanted_named}
 use Rattle.drill_replay.proofs.Roomy.{roomy}
-use Rattle.drill.specs.Drill.{IsSize, contents_of, drill}
+use Rattle.drill_replay.specs.Drill.{IsSize, contents_of, drill}
 use Rattle.drill_replay.specs.{Playing.HasBegun, Playing.StandsAtEnd, Playing.StandsBetween, Playing.StandsWithin, Summary.replies_of}
 use Rattle.rdf_term.specs.Limits.{default_max_terms}
 

@@ -4,7 +4,7 @@ use Rattle.std.specs.Prelude.{decimal, codes}
 use Rattle.std.specs.List.{concat}
 use Rattle.std.proofs.lemmas.List.Folds.{concat-append}
 use Rattle.json_spell.specs.Grammar.{Reads}
-use Rattle.drill.specs.Drill.{page_front, earlier_page, later_page, claims as claims_text}
+use Rattle.drill_replay.specs.Drill.{page_front, earlier_page, later_page, claims as claims_text}
 use Rattle.drill_replay.specs.Trees.{earlier_tree, later_tree, page, labels, claims, statement, reference, source_snak, main, snak}
 use Rattle.drill_replay.proofs.Printed.{AllPlain, decimal-plain, onto, plain-append, written_read}
 

@@ -17,7 +17,7 @@ use Rattle.fetched_pages.specs.Meaning.{meaning}
 use Rattle.drill_replay.specs.Told.{keeps_page, page_events, terms_by, terms_there, triples_there, versions_told}
 use Rattle.drill_replay.proofs.Gathered.{giver_of, in_either, in_front, in_rest}
 use Rattle.drill_replay.proofs.{Covered.Covered, Covered.distinct_few, Meant.earlier_few, Meant.later_few, Versions.no_versions}
-use Rattle.drill.specs.Drill.{IsSize, contents_of, deletion, item_deliveries, drill, earlier_page, edits, event, item, late_edit, later_page, page_of, time_at}
+use Rattle.drill_replay.specs.Drill.{IsSize, contents_of, deletion, item_deliveries, drill, earlier_page, edits, event, item, late_edit, later_page, page_of, time_at}
 
 -- ---- events
 

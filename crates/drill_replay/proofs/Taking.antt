@@ -4,7 +4,7 @@ use Rattle.std.proofs.{Math.Seq.take-suc, lemmas.List.take-append-drop, lemmas.L
 use Rattle.delivery.specs.declared.Delivery.{Delivery}
 use Rattle.reorder_buffer.specs.declared.taken.Taken.{Taken}
 use Rattle.replay_model.specs.ReplayState.{ReplayState, following}
-use Rattle.drill.specs.Drill.{item_deliveries, drill}
+use Rattle.drill_replay.specs.Drill.{item_deliveries, drill}
 use Rattle.drill_replay.specs.declared.counts.DrillCounts.{DrillCounts}
 use Rattle.drill_replay.specs.{Playing.Counted, Playing.HasFew, Playing.answer_of, Playing.with_answer, Summary.replies_of}
 use Rattle.drill_replay.proofs.{Counting.counted-next, Counting.few-next, Drills.drill-next}

@@ -7,7 +7,7 @@ use Rattle.delivery.specs.{declared.Delivery.Delivery, declared.Delivery.TheVari
 use Rattle.entity_model.specs.declared.event.Kind.TheVariants.{Delete, Edit}
 use Rattle.entity_model.specs.declared.mapping.MappingVersion.TheVariants.{One}
 use Rattle.replay_model.specs.{Acceptance.mapping_of, Acceptance.version_in_force, Transcript.pattern_of, Transcript.shapes_of}
-use Rattle.drill.specs.Drill.{item_deliveries, drill, edits, event, time_at}
+use Rattle.drill_replay.specs.Drill.{item_deliveries, drill, edits, event, time_at}
 
 -- the deliveries of an item, by whether it is a fifth and a tenth one
 abbrev of_item : Bool → Bool → ℕ → List Delivery

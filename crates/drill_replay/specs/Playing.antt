@@ -8,7 +8,7 @@ use Rattle.reorder_buffer.specs.declared.taken.Taken.TheVariants.{New, Repeat, L
 use Rattle.replay_model.specs.Acceptance.{accepted, late}
 use Rattle.replay_model.specs.ReplayState.{ReplayState, after_end, after_some, entered, following}
 use Rattle.world.specs.WorldState.{WorldState}
-use Rattle.drill.specs.Drill.{drill}
+use Rattle.drill_replay.specs.Drill.{drill}
 use Rattle.drill_replay.specs.{declared.counts.DrillCounts.DrillCounts, Summary.replies_of}
 
 -- these deliveries were counted

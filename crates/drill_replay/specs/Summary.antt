@@ -10,7 +10,7 @@ use Rattle.replay_model.specs.{Replies.source_replies, ReplayState.ReplayState, 
 use Rattle.fetched_pages.specs.Meaning.{meaning}
 use Rattle.hex.specs.Hex.{encode_lower}
 use Rattle.md5.specs.Md5.{md5}
-use Rattle.drill.specs.Drill.{contents_of, drill}
+use Rattle.drill_replay.specs.Drill.{contents_of, drill}
 use Rattle.drill_replay.specs.declared.summary.Summary.{Summary}
 
 -- the replies to the fetches of a drill: what is there, since none fails

@@ -6,7 +6,7 @@ ghost use Rattle.json_spell.specs.Grammar.{Reads};
 ghost use Rattle.entity_model.specs.declared.mapping.MappingVersion.{MappingVersion};
 ghost use Rattle.triple_store.specs.Room.{distinct, terms_of};
 ghost use Rattle.fetched_pages.specs.Meaning.{meaning};
-ghost use Rattle.drill.specs.Drill.{earlier_page, item, later_page};
+ghost use Rattle.drill_replay.specs.Drill.{earlier_page, item, later_page};
 ghost use Rattle.drill_replay.specs.Trees.{earlier_tree, later_tree};
 
 /// The pages of an item of a drill, whose number has at most 64 bits, are JSON texts (RFC 8259) of these values.

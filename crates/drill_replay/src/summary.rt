@@ -6,7 +6,7 @@ ghost use Rattle.rdf_term.specs.Order.{triple_cmp};
 ghost use Rattle.entity_model.specs.declared.mapping.MappingVersion.TheVariants.{One};
 ghost use Rattle.fetched_pages.specs.Meaning.{meaning};
 ghost use Rattle.md5.specs.Md5.{md5};
-ghost use Rattle.drill.specs.Drill.{drill};
+ghost use Rattle.drill_replay.specs.Drill.{drill};
 ghost use Rattle.drill_replay.specs.Playing.{Counted, IsByFirst};
 ghost use Rattle.drill_replay.specs.Summary.{digest_line, drilled, kept_in, summary_lines, number_line, summary_of, triple_lines};
 

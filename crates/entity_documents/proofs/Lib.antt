@@ -1,1 +1,7 @@
 pub mod AnswerLemmas
+pub mod Entried
+pub mod Rows
+pub mod Splitting
+pub mod ChangedMaps
+pub mod ChangedEntities
+pub mod ChangedPages

@@ -22,7 +22,7 @@ use Rattle.page_rdf.proofs.Fit.{entity_fit}
 use Rattle.page_rdf.proofs.SpokenFit.{spoken_fit}
 use Rattle.statement_rdf.specs.Statements.{statements_triples}
 use Rattle.statement_rdf.proofs.Fit.{statements_fit}
-use Rattle.lexeme_rdf.proofs.Fit.{lexdump_list_fit}
+use Rattle.entity_rdf.proofs.LexemeFit.{lexdump_list_fit}
 use Rattle.entity_rdf.specs.Dump.{dump}
 
 articles_fit : (x : EntityId) (e : Entity) → IsSmallEntity e → AreFit (flat_map (article_triples x) e.links)

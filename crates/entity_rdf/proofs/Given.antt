@@ -17,7 +17,7 @@ use Rattle.statement_rdf.proofs.Given.{statement_rules}
 use Rattle.statement_rdf.proofs.Members.{in_front, in_back, in_either, in_flat_map, flat_map_in}
 use Rattle.page_rdf.specs.Dataset.{change_triples, dataset_term, number_triples, page_triples}
 use Rattle.statement_rdf.specs.Statements.{judged_triples, statements_triples}
-use Rattle.lexeme_rdf.proofs.Given.{lexdump_rules}
+use Rattle.entity_rdf.proofs.LexemeGiven.{lexdump_rules}
 use Rattle.page_rdf.specs.About.{alias_triples, class_triples, dataset_triples, description_triples, label_triples, link_count as link_counts, text_triples}
 use Rattle.page_rdf.specs.Property.{datatype_triples, other_predicates, property_triples, property_triples_of, value_predicates}
 use Rattle.page_rdf.specs.Spoken.{spoken_triples}

@@ -24,7 +24,7 @@ use Rattle.entity_rdf.specs.Gives.{Gives, EntityGives, class, label, preferred_l
 use Rattle.page_rdf.specs.Property.{is_datatype_char, other_predicates, type_triples, value_predicates}
 use Rattle.statement_rdf.proofs.Each.{of_each_member, of_member}
 use Rattle.statement_rdf.proofs.Labels.{AreShort, said, statement_short, tagged_short}
-use Rattle.lexeme_rdf.proofs.Labels.{lexeme_short}
+use Rattle.entity_rdf.proofs.LexemeLabels.{lexeme_short}
 use Rattle.entity_rdf.proofs.Given.{dump_rules}
 
 -- a link's triples

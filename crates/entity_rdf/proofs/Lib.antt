@@ -6,3 +6,7 @@ pub mod Keeping
 pub mod Balance
 pub mod Counting
 pub mod PartFit
+pub mod LexemeFit
+pub mod LexemeGiven
+pub mod LexemeKept
+pub mod LexemeLabels

@@ -12,7 +12,7 @@ use Rattle.rdf_vocabulary.specs.Predicate.{about}
 use Rattle.rdf_vocabulary.specs.Prefix.{entity_term}
 use Rattle.sitelinks.specs.Article.{article_triples}
 use Rattle.page_rdf.specs.Spoken.{spoken_triples}
-use Rattle.lexeme_rdf.specs.Dump.{lexdump}
+use Rattle.entity_rdf.specs.LexemeDump.{lexdump}
 use Rattle.statement_rdf.specs.Statements.{statements_triples}
 
 -- all that an entity's page says

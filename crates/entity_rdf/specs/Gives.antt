@@ -22,7 +22,7 @@ use Rattle.rdf_vocabulary.specs.Resource.{class_triple, resource_term}
 use Rattle.sitelinks.specs.Article.{article_triples}
 use Rattle.statement_rdf.specs.Gives.{StatementGives}
 use Rattle.statement_facts.specs.Ranking.{is_best}
-use Rattle.lexeme_rdf.specs.Gives.{LexemeGives}
+use Rattle.entity_rdf.specs.LexemeGives.{LexemeGives}
 use Rattle.page_rdf.specs.Dataset.{dataset_term, format_version, identifiers, number_term}
 use Rattle.page_rdf.specs.Texts.{tagged_term}
 use Rattle.page_rdf.specs.About.{class_of}

@@ -3,3 +3,7 @@ pub mod Gives
 pub mod Keeps
 pub mod Counted
 pub mod Changing
+pub mod LexemeDump
+pub mod LexemeGives
+pub mod LexemeKeeps
+pub mod LexemeStatements

@@ -7,8 +7,8 @@ ghost use Rattle.sitelinks.specs.Article.{article_triples};
 ghost use Rattle.triple_sink.specs.Gains.{Gains, KeepsFront};
 ghost use Rattle.entity_rdf.specs.{Counted.counted_triples, Dump.dump, Dump.redirect_triples};
 
+use crate::lexeme_walk::emit_lexeme;
 use entity_model::{Document, EntityId, Link};
-use lexeme_rdf::emit_lexeme;
 use page_rdf::{Counted, Counts, emit_spoken};
 use rdf_term::OutOfMemory;
 use rdf_vocabulary::{Predicate, Prefix};

@@ -3,3 +3,5 @@ pub mod Record
 pub mod Tabled
 pub mod Standing
 pub mod Table
+pub mod Entry
+pub mod Side

@@ -4,7 +4,7 @@ use Rattle.std.specs.Prelude.{IfSome}
 use Rattle.std.specs.List.{AllByRecursion}
 use Rattle.sorted_sets.specs.Merging.{Balance, IsWithin}
 use Rattle.rdf_term.specs.{declared.triple.Triple.Triple, Fit.HasFitAndShortTerms}
-use Rattle.changed_pages.specs.{declared.changed.Changed.Changed, Changed.HasChanged}
+use Rattle.entity_documents.specs.{declared.changed.Changed.Changed, Changed.HasChanged}
 use Rattle.entity_json.specs.Document.{document_by, document_of, document_or_cause, unfit_by, unfit_of}
 use Rattle.entity_json.proofs.Fitness.{document_small}
 use Rattle.entity_model.specs.{declared.document.Document.Document, declared.document.Document.TheVariants.Entity as AnEntity}

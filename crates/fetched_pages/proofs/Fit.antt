@@ -13,7 +13,7 @@ use Rattle.entity_json.proofs.Fitness.{document_small}
 use Rattle.entity_rdf.proofs.Direct.{direct_fit}
 use Rattle.replay_model.specs.{Records.Bytes, Records.Records, Replies.GivesDocument}
 use Rattle.revisions.specs.Revisions.{Contents}
-use Rattle.side_output.specs.declared.entry.Cause.{Cause}
+use Rattle.entity_state.specs.declared.entry.Cause.{Cause}
 use Rattle.fetched_pages.specs.{Reply.IsReply, declared.fetching.FetchedPage.FetchedPage}
 use Rattle.fetched_pages.specs.declared.fetching.FetchedPage.TheVariants.{Whole, Changed}
 use Rattle.fetched_pages.specs.{Fetched.IsFetched, Fetched.IsPageOf, Fetched.bytes_of, Listed.IsListed}

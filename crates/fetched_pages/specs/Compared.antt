@@ -3,7 +3,7 @@ use Rattle.std.specs.Prelude.{◌≡◌, ℕ, List, Some}
 use Rattle.std.specs.List.{AllByRecursion}
 use Rattle.sorted_sets.specs.Merging.{Balance, IsWithin}
 use Rattle.rdf_term.specs.Fit.{HasFitAndShortTerms}
-use Rattle.changed_pages.specs.declared.changed.Changed.{Changed}
+use Rattle.entity_documents.specs.declared.changed.Changed.{Changed}
 use Rattle.entity_json.specs.Document.{document_of}
 use Rattle.entity_model.specs.{declared.document.Document.TheVariants.Entity as AnEntity, declared.entity.Entity.Entity}
 use Rattle.entity_model.specs.{declared.id.EntityId.EntityId, declared.mapping.MappingVersion.MappingVersion}

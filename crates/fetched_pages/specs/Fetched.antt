@@ -4,7 +4,7 @@ use Rattle.std.specs.List.{AllByRecursion}
 use Rattle.sorted_sets.specs.Rising.{has, sorted}
 use Rattle.rdf_term.specs.{declared.triple.Triple.Triple, Fit.HasFitAndShortTerms, Order.triple_cmp}
 use Rattle.entity_model.specs.{declared.id.EntityId.EntityId, declared.mapping.MappingVersion.MappingVersion}
-use Rattle.side_output.specs.{declared.entry.Cause.Cause, declared.entry.Cause.TheVariants.Failed}
+use Rattle.entity_state.specs.{declared.entry.Cause.Cause, declared.entry.Cause.TheVariants.Failed}
 use Rattle.replay_model.specs.Records.{Bytes, Records}
 use Rattle.entity_json.specs.declared.fault.DocumentFault.{DocumentFault}
 use Rattle.entity_json.specs.declared.fault.DocumentFault.TheVariants.{Unfit as NoDocument, OutOfMemory as DocumentOutOfMemory}

@@ -3,7 +3,7 @@ use Rattle.std.specs.Prelude.{◌≡◌, ℕ, ⊤, List, Option, None, Some, Res
 use Rattle.entity_json.specs.Document.{document_of}
 use Rattle.entity_model.specs.{declared.document.Document.Document, declared.id.EntityId.EntityId}
 use Rattle.replay_model.specs.Records.{Bytes}
-use Rattle.side_output.specs.declared.entry.Cause.{Cause}
+use Rattle.entity_state.specs.declared.entry.Cause.{Cause}
 use Rattle.graph_routes.specs.{declared.routes.Route.Route, Routing.route_of}
 use Rattle.fetched_pages.specs.declared.fetching.FetchedPage.{FetchedPage}
 use Rattle.fetched_pages.specs.declared.fetching.FetchedPage.TheVariants.{Whole, Changed}

@@ -8,7 +8,7 @@ ghost use Rattle.entity_rdf.specs.Counted.{counted_kept};
 ghost use Rattle.fetched_pages.specs.Compared.{AreChanged, AreTextsOfParts};
 
 use crate::fetching::Wanted;
-use changed_pages::{Changed, read_changed};
+use entity_documents::{Changed, read_changed};
 use entity_model::Entity;
 use entity_rdf::counted_texts;
 use page_rdf::{Counted, Counts};

@@ -20,11 +20,11 @@ use crate::meaning::document_texts;
 use entity_documents::document;
 use entity_json::{DocumentFault, discard};
 use entity_model::{Document, EntityId, MappingVersion};
+use entity_state::Cause;
 use graph_routes::{Routes, route};
 use page_rdf::Counts;
 use rdf_term::{List, OutOfMemory};
 use revisions::{NoRevision, Revisions};
-use side_output::Cause;
 use std::alloc::Global;
 use triple_texts::TripleTexts;
 

@@ -26,7 +26,7 @@ use Rattle.rdf_vocabulary.proofs.Shared.{chosen}
 use Rattle.munger.specs.Iris.{dataset_iri, is_iri_of}
 use Rattle.munger.specs.Munging.{left_by, munge, munged}
 use Rattle.munger.specs.Verdict.{has_dropped_type, is_moved, repeats_label}
-use Rattle.lexeme_rdf.specs.Dump.{lexdump}
+use Rattle.entity_rdf.specs.LexemeDump.{lexdump}
 use Rattle.entity_rdf.specs.Dump.{dump, entity_triples}
 use Rattle.triple_store.proofs.Stocked.{length-sorted}
 use Rattle.fetched_pages.specs.Meaning.{meaning, triples_if}

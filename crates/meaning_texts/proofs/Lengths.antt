@@ -56,8 +56,8 @@ use Rattle.page_rdf.specs.Part.{part_term}
 use Rattle.page_rdf.specs.Property.{datatype_triples, is_datatype_char, other_predicates, property_triples, property_triples_of, value_predicates}
 use Rattle.page_rdf.specs.Sense.{sense_head, sense_triples}
 use Rattle.page_rdf.specs.Spoken.{spoken_triples}
-use Rattle.lexeme_rdf.specs.Dump.{lexdump, part_triples, spoken_triples as lexeme_spoken}
-use Rattle.lexeme_rdf.specs.Statements.{all_statements, part_statements}
+use Rattle.entity_rdf.specs.LexemeDump.{lexdump, part_triples, spoken_triples as lexeme_spoken}
+use Rattle.entity_rdf.specs.LexemeStatements.{all_statements, part_statements}
 use Rattle.entity_rdf.specs.Dump.{entity_triples}
 use Rattle.meaning_texts.proofs.Sizes.{badges_size, one, part_size, reference_size, statement_size}
 

@@ -23,9 +23,9 @@ use Rattle.page_rdf.specs.Dataset.{dataset_term, format_version, identifiers, nu
 use Rattle.page_rdf.specs.Part.{part_term}
 use Rattle.page_rdf.specs.Texts.{tagged_term}
 use Rattle.statement_facts.specs.Ranking.{is_best}
-use Rattle.lexeme_rdf.specs.Gives.{EntryGives, lexical_entry, lexeme, language, category, TextGives, spelled, label, PageGives, dataset, dataset_about, license, format, revision, statement_count, identifier_count, modified}
-use Rattle.lexeme_rdf.specs.Gives.{FormGives, lexical_form, form_class, wikibase_form, representation, feature, SenseGives, lexical_sense, sense_class, wikibase_sense, gloss, OwnGives, one}
-use Rattle.lexeme_rdf.specs.Gives.{LexemeGives, entry, lemma, page, form, sense, statement, form_statement, sense_statement}
+use Rattle.entity_rdf.specs.LexemeGives.{EntryGives, lexical_entry, lexeme, language, category, TextGives, spelled, label, PageGives, dataset, dataset_about, license, format, revision, statement_count, identifier_count, modified}
+use Rattle.entity_rdf.specs.LexemeGives.{FormGives, lexical_form, form_class, wikibase_form, representation, feature, SenseGives, lexical_sense, sense_class, wikibase_sense, gloss, OwnGives, one}
+use Rattle.entity_rdf.specs.LexemeGives.{LexemeGives, entry, lemma, page, form, sense, statement, form_statement, sense_statement}
 use Rattle.meaning_texts.specs.Documents.{IsUtf8Lexeme, IsUtf8Part, IsUtf8Statement, IsUtf8Tagged}
 use Rattle.meaning_texts.specs.Terms.{HasUtf8Terms, IsUtf8Term}
 use Rattle.meaning_texts.proofs.Ascii.{ascii_utf8, decimal_utf8}

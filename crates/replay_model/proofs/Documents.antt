@@ -6,7 +6,7 @@ use Rattle.entity_state.specs.declared.record.Held.{Held}
 use Rattle.entity_state.specs.declared.record.Record.{Record}
 use Rattle.entity_state.specs.State.{is_deleted, state_after}
 use Rattle.entity_state.specs.Record.{held_revision, wants}
-use Rattle.side_output.specs.declared.entry.Cause.{Cause}
+use Rattle.entity_state.specs.declared.entry.Cause.{Cause}
 use Rattle.replay_model.specs.Fate.{is_of}
 use Rattle.replay_model.specs.Play.{Played, apply, held_after_fetch, record_after}
 use Rattle.replay_model.specs.Records.{Bytes, record_of}

@@ -5,9 +5,9 @@ use Rattle.entity_model.specs.declared.event.Event.{Event}
 use Rattle.entity_state.specs.declared.record.Record.{Record}
 use Rattle.entity_state.specs.State.{state_after}
 use Rattle.entity_state.specs.Record.{held_revision, wants}
-use Rattle.side_output.specs.declared.entry.Cause.{Cause}
-use Rattle.side_output.specs.declared.entry.Entry.{Entry}
-use Rattle.side_output.specs.declared.entry.Entry.TheVariants.{Late}
+use Rattle.entity_state.specs.declared.entry.Cause.{Cause}
+use Rattle.entity_state.specs.declared.entry.Entry.{Entry}
+use Rattle.entity_state.specs.declared.entry.Entry.TheVariants.{Late}
 use Rattle.delivery.specs.declared.Delivery.{Delivery}
 use Rattle.delivery.specs.declared.Delivery.TheVariants.{Event as Told, Watermark, Ask, Mapping, Match}
 use Rattle.sorted_sets.proofs.Pushes.{by_pushes}

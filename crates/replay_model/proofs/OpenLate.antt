@@ -5,7 +5,7 @@ use Rattle.entity_model.specs.declared.event.Event.{Event}
 use Rattle.entity_model.specs.Event.{event_cmp, event_cmp_total, event_cmp_same}
 use Rattle.entity_state.specs.declared.record.Record.{Record}
 use Rattle.entity_state.specs.Record.{blank}
-use Rattle.side_output.specs.Entry.{is_before}
+use Rattle.entity_state.specs.Entry.{is_before}
 use Rattle.delivery.specs.declared.Delivery.{Delivery}
 use Rattle.sorted_sets.proofs.Bools.{or_assoc, or_none}
 use Rattle.sorted_sets.proofs.Rising.{turned}

@@ -19,7 +19,7 @@ use Rattle.entity_model.specs.EntityId.{entity_cmp, entity_cmp_same, entity_cmp_
 use Rattle.entity_state.specs.declared.record.Record.{Record}
 use Rattle.entity_state.specs.State.{is_deleted, state_after}
 use Rattle.entity_state.specs.Record.{held_revision, wants}
-use Rattle.side_output.specs.declared.entry.Cause.{Cause}
+use Rattle.entity_state.specs.declared.entry.Cause.{Cause}
 use Rattle.replay_model.specs.Acceptance.{Arrival, arrivals, version_in_force}
 use Rattle.replay_model.specs.Play.{Replies, Played, apply, apply_all, happens, held_after_fetch, newly_due, play, played, record_after}
 use Rattle.replay_model.specs.PlayedVersions.{by_two_after_event, by_two_after_events, by_two_at, by_two_of_play, by_two_played, by_two_remapped}

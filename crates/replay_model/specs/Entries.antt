@@ -8,9 +8,9 @@ use Rattle.entity_model.specs.Event.{event_cmp}
 use Rattle.entity_state.specs.declared.record.Record.{Record}
 use Rattle.entity_state.specs.Record.{held_revision}
 use Rattle.entity_state.specs.State.{is_kept}
-use Rattle.side_output.specs.declared.entry.Entry.{Entry}
-use Rattle.side_output.specs.declared.entry.Entry.TheVariants.{Late, Revision}
-use Rattle.side_output.specs.Entry.{entity_of, is_open}
+use Rattle.entity_state.specs.declared.entry.Entry.{Entry}
+use Rattle.entity_state.specs.declared.entry.Entry.TheVariants.{Late, Revision}
+use Rattle.entity_state.specs.Entry.{entity_of, is_open}
 use Rattle.replay_model.specs.Fate.{is_of}
 use Rattle.replay_model.specs.Records.{Bytes, Records, is_settled, record_of}
 use Rattle.replay_model.specs.Play.{Played}

@@ -3,8 +3,8 @@ use Rattle.std.specs.Prelude.{◌≡◌, ℕ, ◌+◌, length, List, Bool, true,
 use Rattle.sorted_sets.specs.Rising.{has, IsRising}
 use Rattle.entity_model.specs.declared.event.Event.{Event}
 use Rattle.entity_model.specs.Event.{event_cmp}
-use Rattle.side_output.specs.declared.entry.Cause.{Cause}
-use Rattle.side_output.specs.declared.entry.Cause.TheVariants.{Failed}
+use Rattle.entity_state.specs.declared.entry.Cause.{Cause}
+use Rattle.entity_state.specs.declared.entry.Cause.TheVariants.{Failed}
 use Rattle.entity_state.specs.State.{state_after}
 use Rattle.entity_state.specs.Record.{held_revision, wants}
 use Rattle.reorder_buffer.specs.Watermarks.{is_due}

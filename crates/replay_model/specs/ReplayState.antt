@@ -3,8 +3,8 @@ use Rattle.std.specs.Prelude.{◌≡◌, ℤ, ℕ, zero, suc, true, false, not, 
 use Rattle.sorted_sets.specs.Rising.{has}
 use Rattle.entity_model.specs.declared.event.Event.{Event}
 use Rattle.entity_model.specs.Event.{event_cmp}
-use Rattle.side_output.specs.declared.entry.Entry.{Entry}
-use Rattle.side_output.specs.declared.entry.Entry.TheVariants.{Late as LateEntry}
+use Rattle.entity_state.specs.declared.entry.Entry.{Entry}
+use Rattle.entity_state.specs.declared.entry.Entry.TheVariants.{Late as LateEntry}
 use Rattle.delivery.specs.declared.Delivery.{Delivery}
 use Rattle.delivery.specs.declared.Delivery.TheVariants.{Event as Told, Watermark, Ask, Mapping, Match}
 use Rattle.reorder_buffer.specs.declared.taken.Taken.{Taken}

@@ -6,10 +6,10 @@ use Rattle.entity_model.specs.declared.event.Event.{Event}
 use Rattle.entity_model.specs.declared.unfit.Unfit.{Unfit}
 use Rattle.entity_model.specs.Event.{event_cmp}
 use Rattle.entity_state.specs.declared.record.Held.{Held}
-use Rattle.side_output.specs.declared.entry.Cause.{Cause}
-use Rattle.side_output.specs.declared.entry.Cause.TheVariants.{Missing, Failed, Unfit as NoDocument}
-use Rattle.side_output.specs.declared.entry.Entry.{Entry}
-use Rattle.side_output.specs.declared.entry.Entry.TheVariants.{Late, Revision}
+use Rattle.entity_state.specs.declared.entry.Cause.{Cause}
+use Rattle.entity_state.specs.declared.entry.Cause.TheVariants.{Missing, Failed, Unfit as NoDocument}
+use Rattle.entity_state.specs.declared.entry.Entry.{Entry}
+use Rattle.entity_state.specs.declared.entry.Entry.TheVariants.{Late, Revision}
 use Rattle.replay_model.specs.Records.{Bytes}
 use Rattle.replay_model.specs.Play.{Replies}
 

@@ -9,8 +9,8 @@ use Rattle.rdf_term.specs.declared.triple.Triple.{Triple}
 use Rattle.rdf_term.specs.Order.{triple_cmp}
 use Rattle.rdf_term.specs.Text.{term_text, triple_text}
 use Rattle.rdf_term.specs.Pattern.{rows}
-use Rattle.graph_query.specs.declared.query.Shape.{Shape}
-use Rattle.graph_query.specs.Bindings.{bindings}
+use Rattle.delivery.specs.declared.query.Shape.{Shape}
+use Rattle.delivery.specs.Bindings.{bindings}
 use Rattle.entity_model.specs.declared.id.EntityId.{EntityId}
 use Rattle.entity_model.specs.declared.event.Event.{Event}
 use Rattle.entity_model.specs.declared.event.Kind.{Kind}
@@ -21,16 +21,16 @@ use Rattle.entity_model.specs.EntityId.{id_text}
 use Rattle.entity_state.specs.declared.state.Mode.{Mode}
 use Rattle.entity_state.specs.declared.state.Mode.TheVariants.{Unknown, Kept, Deleted}
 use Rattle.entity_state.specs.declared.state.State.{State}
-use Rattle.side_output.specs.declared.entry.Cause.{Cause}
-use Rattle.side_output.specs.declared.entry.Cause.TheVariants.{Missing, Failed, Unfit as NoDocument}
-use Rattle.side_output.specs.declared.entry.Entry.{Entry}
-use Rattle.side_output.specs.declared.entry.Entry.TheVariants.{Late, Revision}
+use Rattle.entity_state.specs.declared.entry.Cause.{Cause}
+use Rattle.entity_state.specs.declared.entry.Cause.TheVariants.{Missing, Failed, Unfit as NoDocument}
+use Rattle.entity_state.specs.declared.entry.Entry.{Entry}
+use Rattle.entity_state.specs.declared.entry.Entry.TheVariants.{Late, Revision}
 use Rattle.delivery.specs.declared.Delivery.{Delivery}
 use Rattle.delivery.specs.declared.Delivery.TheVariants.{Ask, Match}
 use Rattle.entity_model.specs.declared.mapping.MappingVersion.{MappingVersion}
 use Rattle.replay_model.specs.Acceptance.{Arrival, arrivals, version_in_force}
 use Rattle.replay_model.specs.Entries.{is_open_in}
-use Rattle.side_output.specs.Entry.{entity_of}
+use Rattle.entity_state.specs.Entry.{entity_of}
 use Rattle.replay_model.specs.Play.{Replies, Played, play, play_to_end}
 use Rattle.replay_model.specs.Records.{Records}
 use Rattle.replay_model.specs.Union.{Meaning, union}

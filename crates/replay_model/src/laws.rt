@@ -5,7 +5,7 @@ ghost use Rattle.std.specs.List.{list_any};
 ghost use Rattle.sorted_sets.specs.Rising.{has};
 ghost use Rattle.entity_model.specs.{declared.event.Event.Event, declared.id.EntityId.EntityId, Event.event_cmp};
 ghost use Rattle.entity_state.specs.{State.is_kept, Standing.is_reconciliation};
-ghost use Rattle.side_output.specs.declared.entry.Entry.{Entry};
+ghost use Rattle.entity_state.specs.declared.entry.Entry.{Entry};
 ghost use Rattle.delivery.specs.declared.Delivery.{Delivery};
 ghost use Rattle.replay_model.specs.Acceptance.{accepted, late, due, known};
 ghost use Rattle.replay_model.specs.Entries.{HoldsUnlessOpen, late_events, is_later, is_open_by, is_open_late, has_open_revision};

@@ -4,7 +4,7 @@ ghost use Rattle.std.specs.Prelude.{◌≡◌, ℕ, ◌+◌, cond, length, ℤ, 
 ghost use Rattle.sorted_sets.specs.Rising.{Each};
 ghost use Rattle.entity_model.specs.{declared.event.Event.Event, declared.id.EntityId.EntityId};
 ghost use Rattle.entity_model.specs.declared.mapping.MappingVersion.{MappingVersion};
-ghost use Rattle.side_output.specs.declared.entry.Cause.{Cause};
+ghost use Rattle.entity_state.specs.declared.entry.Cause.{Cause};
 ghost use Rattle.delivery.specs.declared.Delivery.{Delivery};
 ghost use Rattle.reorder_buffer.specs.Buffered.{first_due};
 ghost use Rattle.replay_model.specs.{Records.Bytes, Records.record_of, Play.Replies, Play.Fetch, Play.played};

@@ -4,7 +4,7 @@ ghost use Rattle.std.specs.Prelude.{◌≡◌};
 ghost use Rattle.replay_model.specs.Transcript.{cause_word, kind_word, unfit_word};
 
 use entity_model::{Kind, Unfit};
-use side_output::Cause;
+use entity_state::Cause;
 
 /// The word for a kind of event.
 #[tactic(auto, unfolding(crate::specs::Transcript::kind_word))]

@@ -4,7 +4,7 @@ use Rattle.std.specs.Prelude.{map as mapped}
 use Rattle.std.specs.Ordering.{nat_cmp}
 use Rattle.rdf_term.specs.declared.pattern.Pattern.{Pattern}
 use Rattle.rdf_term.specs.declared.triple.Triple.{Triple}
-use Rattle.graph_query.specs.Bindings.{bindings}
+use Rattle.delivery.specs.Bindings.{bindings}
 use Rattle.entity_model.specs.declared.id.EntityId.{EntityId}
 use Rattle.entity_model.specs.declared.id.IdKind.TheVariants.{Q}
 use Rattle.entity_model.specs.declared.event.Event.{Event}
@@ -13,8 +13,8 @@ use Rattle.delivery.specs.declared.Delivery.{Delivery}
 use Rattle.delivery.specs.declared.Delivery.TheVariants.{Event as Told, Watermark, Ask, Mapping, Match}
 use Rattle.entity_model.specs.declared.mapping.MappingVersion.{MappingVersion}
 use Rattle.entity_model.specs.declared.mapping.MappingVersion.TheVariants.{One, Two}
-use Rattle.side_output.specs.declared.entry.Cause.TheVariants.{Missing}
-use Rattle.side_output.specs.declared.entry.Entry.TheVariants.{Late, Revision}
+use Rattle.entity_state.specs.declared.entry.Cause.TheVariants.{Missing}
+use Rattle.entity_state.specs.declared.entry.Entry.TheVariants.{Late, Revision}
 use Rattle.replay_model.specs.Acceptance.{mark, version_in_force, late, due}
 use Rattle.replay_model.specs.Play.{Replies}
 use Rattle.replay_model.specs.Transcript.{asks, ask_section, export_section, match_section, matches}

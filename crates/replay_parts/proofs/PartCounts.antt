@@ -4,8 +4,8 @@ use Rattle.std.proofs.lemmas.List.Sums.{sum_by-cons}
 use Rattle.sorted_sets.specs.Rising.{Each}
 use Rattle.delivery.specs.declared.Delivery.{Delivery}
 use Rattle.entity_model.specs.declared.id.EntityId.{EntityId}
-use Rattle.side_output.specs.declared.entry.Entry.{Entry}
-use Rattle.side_output.specs.Entry.{entity_of}
+use Rattle.entity_state.specs.declared.entry.Entry.{Entry}
+use Rattle.entity_state.specs.Entry.{entity_of}
 use Rattle.replay_model.specs.Play.{Replies, Played, Fetch, fetches_to_end, played}
 use Rattle.replay_parts.specs.Parts.{AgreeOnPart, IsPartition, Part, part_of_fetches, part_of_side, routed}
 use Rattle.replay_parts.proofs.PartFetches.{fetches_to_end-routed}

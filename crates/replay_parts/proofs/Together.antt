@@ -6,7 +6,7 @@ use Rattle.rdf_term.specs.declared.pattern.Pattern.{Pattern}
 use Rattle.rdf_term.specs.declared.triple.Triple.{Triple}
 use Rattle.rdf_term.specs.Order.{triple_cmp, triple_cmp-total}
 use Rattle.rdf_term.specs.Pattern.{agrees, rows}
-use Rattle.graph_query.specs.Bindings.{bindings}
+use Rattle.delivery.specs.Bindings.{bindings}
 use Rattle.rdf_term.proofs.Texts.{triple_cmp-IsAntisymmetric}
 use Rattle.sorted_sets.specs.Rising.{Each, has, sorted}
 use Rattle.sorted_sets.proofs.Filtering.{sorted-filter}

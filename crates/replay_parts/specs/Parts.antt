@@ -8,14 +8,14 @@ use Rattle.rdf_term.specs.declared.pattern.Pattern.{Pattern}
 use Rattle.rdf_term.specs.declared.triple.Triple.{Triple}
 use Rattle.rdf_term.specs.Order.{triple_cmp}
 use Rattle.rdf_term.specs.Pattern.{rows}
-use Rattle.graph_query.specs.Bindings.{bindings}
+use Rattle.delivery.specs.Bindings.{bindings}
 use Rattle.entity_model.specs.declared.id.EntityId.{EntityId}
 use Rattle.entity_model.specs.declared.event.Event.{Event}
 use Rattle.delivery.specs.declared.Delivery.{Delivery}
 use Rattle.delivery.specs.declared.Delivery.TheVariants.{Event as Told, Watermark, Ask, Mapping, Match}
 use Rattle.entity_model.specs.declared.mapping.MappingVersion.{MappingVersion}
-use Rattle.side_output.specs.declared.entry.Entry.{Entry}
-use Rattle.side_output.specs.Entry.{entity_of}
+use Rattle.entity_state.specs.declared.entry.Entry.{Entry}
+use Rattle.entity_state.specs.Entry.{entity_of}
 use Rattle.replay_model.specs.Acceptance.{Arrival, arrivals, version_in_force}
 use Rattle.replay_model.specs.Play.{Replies, Played, Fetch, played}
 use Rattle.replay_model.specs.Records.{Records}

@@ -7,7 +7,7 @@ ghost use Rattle.rdf_term.specs.{declared.pattern.Pattern.Pattern, declared.trip
 ghost use Rattle.delivery.specs.declared.Delivery.{Delivery};
 ghost use Rattle.entity_model.specs.{declared.id.EntityId.EntityId, declared.mapping.MappingVersion.MappingVersion};
 ghost use Rattle.entity_state.specs.Record.{blank};
-ghost use Rattle.side_output.specs.{declared.entry.Entry.Entry, Entry.entity_of};
+ghost use Rattle.entity_state.specs.{declared.entry.Entry.Entry, Entry.entity_of};
 ghost use Rattle.replay_model.specs.Acceptance.{Arrival, arrivals, mark, version_in_force};
 ghost use Rattle.replay_model.specs.{Entries.is_open_in, Play.Fetch, Play.Replies, Play.fetches, Play.fetches_to_end, Play.played};
 ghost use Rattle.replay_model.specs.{Records.Records, Records.record_of, ReplayState.following, ReplayState.following_to_end};

@@ -6,11 +6,11 @@ use Rattle.replay_model.specs.{Play.Played, Records.Records}
 use Rattle.replay_model.specs.Transcript.{Question, Sections, answer_section, for_bindings, for_triples}
 use Rattle.replay_model.specs.Versions.{all_by, meaning_by}
 use Rattle.graph_routes.specs.{declared.routes.Route.Route, Routes.graph_name}
-use Rattle.subgraph.specs.Laws.{routed_union}
+use Rattle.subgraph.specs.{Laws.routed_union, Sections.graph_answer, Sections.graph_section}
+use Rattle.subgraph.proofs.{Sections.below-same, Versions.routed-all}
 use Rattle.fetched_pages.specs.Meaning.{meaning}
-use Rattle.transcript.specs.Sections.{closing_of}
-use Rattle.splitting.specs.{Graphs.routing_by, Sections.graph_answer, Sections.graph_section}
-use Rattle.splitting.proofs.{Pieces.below-same, Versions.routed-all}
+use Rattle.replay_parts.specs.Closing.{closing_of}
+use Rattle.world.specs.Routed.{routing_by}
 use Rattle.run_model.specs.Course.{answer_held, answer_text, closing_by, closing_held}
 use Rattle.run_model.specs.Remapping.{Mapped, mapped_by}
 use Rattle.run_model.proofs.Versions.{all_held_by}
@@ -23,7 +23,7 @@ answer_held_by (Some routes) asked matched version mapped records (for_bindings 
 answer_held_by (Some routes) asked matched version mapped records (for_triples pattern) is =
     ap (λ (m : Mapped). answer_held (Some routes) asked matched m records (for_triples pattern)) is
     ∙ below-same (λ graph. graph_answer (asked + 1) (graph_name routes graph) (rows (routed_union (routing_by routes) (meaning_by meaning (all_by version records)) records graph) pattern)) _
-    (λ graph. ap (λ (ts : List Triple). graph_answer (asked + 1) (graph_name routes graph) (rows ts pattern)) (routed-all routes version records graph)) (suc (length routes))
+    (λ graph. ap (λ (ts : List Triple). graph_answer (asked + 1) (graph_name routes graph) (rows ts pattern)) (routed-all (routing_by routes) meaning version records graph)) (suc (length routes))
 
 -- and what is printed at the end
 pub closing_held_by : (routes : Option (List Route)) (version : MappingVersion) (sections : Sections) (mapped : Mapped) (p : Played) → mapped ≡ mapped_by version p.records →
@@ -32,4 +32,4 @@ closing_held_by None version sections mapped p is = ap (λ (ts : List Triple). c
 closing_held_by (Some routes) version sections mapped p is =
     ap (λ (m : Mapped). closing_held (Some routes) (meaning_by meaning m.by_two) sections p) is
     ∙ below-same (λ graph. graph_section (graph_name routes graph) (routed_union (routing_by routes) (meaning_by meaning (all_by version p.records)) p.records graph)) _
-    (λ graph. ap (λ (ts : List Triple). graph_section (graph_name routes graph) ts) (routed-all routes version p.records graph)) (suc (length routes))
+    (λ graph. ap (λ (ts : List Triple). graph_section (graph_name routes graph) ts) (routed-all (routing_by routes) meaning version p.records graph)) (suc (length routes))

@@ -4,7 +4,7 @@ use Rattle.wq_io.specs.Streams.{after_known}
 use Rattle.entity_model.specs.{declared.event.Event.Event, declared.id.EntityId.EntityId, declared.mapping.MappingVersion.MappingVersion}
 use Rattle.delivery.specs.declared.Delivery.{Delivery}
 use Rattle.delivery.specs.declared.Delivery.TheVariants.{Event as Told, Watermark, Ask, Mapping, Match}
-use Rattle.side_output.specs.declared.entry.Entry.{Entry}
+use Rattle.entity_state.specs.declared.entry.Entry.{Entry}
 use Rattle.reorder_buffer.specs.{declared.taken.Taken.Taken, Buffered.answer_to, Buffered.first_due}
 use Rattle.replay_model.proofs.{ToldContents.Each-append, Applied.applied-end, Applied.applied-event, Applied.applied-mark}
 use Rattle.replay_model.proofs.{Explaining.Explained-is, Explaining.Explained-rests, Fetching.failed-taken, Fetching.missing-taken}

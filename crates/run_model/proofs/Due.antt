@@ -2,8 +2,8 @@
 use Rattle.std.proofs.Common.{refl, sym, subst, ◌∙◌, ap, inl, inr, ⊎_elim, ◌≡◌, ◌⊎◌, ℕ, suc, ◌+◌, ◌-◌, ◌^◌, ◌<◌, ◌≤◌, Bool, true, false, cond, max, min, List, [], ◌∷◌, ◌++◌, length, length-append, Option, None, Some, Result, Ok, Err, arith}
 use Rattle.entity_model.specs.{declared.id.EntityId.EntityId, declared.event.Event.Event, declared.mapping.MappingVersion.MappingVersion}
 use Rattle.entity_state.specs.State.{state_after, is_deleted}
-use Rattle.side_output.specs.{declared.entry.Cause.Cause, declared.entry.Entry.Entry}
-use Rattle.side_output.specs.declared.entry.Cause.TheVariants.{Missing, Failed, Unfit as NoDocument}
+use Rattle.entity_state.specs.{declared.entry.Cause.Cause, declared.entry.Entry.Entry}
+use Rattle.entity_state.specs.declared.entry.Cause.TheVariants.{Missing, Failed, Unfit as NoDocument}
 use Rattle.revisions.specs.{Revisions.Contents, Revisions.counted, declared.revisions.Revisions.Ghosts as RevisionsOf}
 use Rattle.reorder_buffer.specs.Buffered.{first_due}
 use Rattle.replay_model.specs.{Records.Bytes, Records.record_of, Play.Replies, Play.risen_by}

@@ -16,7 +16,7 @@ use Rattle.replay_model.specs.{Explained.AgreeOnApplied, Explained.Explained, Ex
 use Rattle.replay_model.specs.Replies.{GivesDocument, Judgement, failed_events, judged, reply_there, source_replies}
 use Rattle.replay_model.specs.ReplayState.{ReplayState, after_due, after_end, after_event, after_mark, delivered, ended, fetches_delivered, fetches_due}
 use Rattle.replay_model.specs.Transcript.{Question, asking, for_bindings, for_triples}
-use Rattle.side_output.specs.declared.entry.Cause.TheVariants.{Failed}
+use Rattle.entity_state.specs.declared.entry.Cause.TheVariants.{Failed}
 use Rattle.replay_model.proofs.Applied.{applied-end, applied-event, applied-mark}
 use Rattle.replay_model.proofs.{Explaining.Explained-made, Explaining.Explained-rests, FetchCounts.fetches_due-none, Fetching.failed-taken}
 use Rattle.replay_model.proofs.Following.{after_due-none}

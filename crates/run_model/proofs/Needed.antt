@@ -9,8 +9,8 @@ use Rattle.delivery.specs.{declared.Delivery.Delivery, declared.Delivery.TheVari
 use Rattle.entity_model.specs.{declared.event.Event.Event, declared.id.EntityId.EntityId, declared.mapping.MappingVersion.MappingVersion}
 use Rattle.entity_model.specs.EntityId.{entity_cmp, entity_cmp_total}
 use Rattle.entity_state.specs.{declared.record.Held.Held, declared.record.Record.Record, State.is_deleted, State.state_after}
-use Rattle.side_output.specs.{declared.entry.Cause.Cause, declared.entry.Entry.Entry}
-use Rattle.side_output.specs.declared.entry.Entry.TheVariants.{Late, Revision}
+use Rattle.entity_state.specs.{declared.entry.Cause.Cause, declared.entry.Entry.Entry}
+use Rattle.entity_state.specs.declared.entry.Entry.TheVariants.{Late, Revision}
 use Rattle.revisions.specs.Revisions.{Contents}
 use Rattle.reorder_buffer.specs.{Watermarks.is_due, Buffered.first_due}
 use Rattle.replay_model.specs.Explained.{is_fetching, revision_wanted}

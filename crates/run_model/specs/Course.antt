@@ -13,10 +13,10 @@ use Rattle.graph_routes.specs.declared.routes.Route.{Route}
 use Rattle.patch_stream.specs.Stream.{Step, steps_due, is_change, numbered_from, steps_anew}
 use Rattle.run_model.specs.{Moment.Beginning, Moment.standing, Remapping.needed_of_delivery, Remapping.needed_by_due, Remapping.Mapped}
 use Rattle.rdf_term.specs.{declared.triple.Triple.Triple, Order.triple_cmp, Pattern.rows}
-use Rattle.subgraph.specs.Laws.{routed_union}
+use Rattle.subgraph.specs.{Laws.routed_union, Sections.graph_answers, Sections.graph_sections}
 use Rattle.fetched_pages.specs.Meaning.{meaning}
-use Rattle.transcript.specs.Sections.{closing_of}
-use Rattle.splitting.specs.{Graphs.routing_by, Sections.graph_answers, Sections.graph_sections}
+use Rattle.replay_parts.specs.Closing.{closing_of}
+use Rattle.world.specs.Routed.{routing_by}
 use Rattle.replay_parts.specs.Checkpoint.{Checkpoint, advanced, advanced_by, version_after}
 use Rattle.replica.specs.Record.{record_text}
 

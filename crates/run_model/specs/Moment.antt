@@ -18,7 +18,7 @@ use Rattle.run_model.specs.declared.stop.Halt.TheVariants.{Unapplied as NotAppli
 use Rattle.run_model.specs.declared.report.Report.TheVariants.{Answers, Changes}
 use Rattle.graph_routes.specs.declared.routes.Route.{Route}
 use Rattle.arguments.specs.Options.{Choices, folder_of, max_terms_of}
-use Rattle.side_output.specs.declared.entry.Entry.{Entry}
+use Rattle.entity_state.specs.declared.entry.Entry.{Entry}
 use Rattle.term_pool.specs.declared.fault.PoolFault.{PoolFault as StoreFault}
 use Rattle.term_pool.specs.declared.fault.PoolFault.TheVariants.{Full, OutOfMemory}
 use Rattle.delivery.specs.declared.Delivery.{Delivery}

@@ -15,7 +15,7 @@ use Rattle.term_pool.specs.declared.fault.PoolFault.TheVariants.{Full, OutOfMemo
 use Rattle.sorted_sets.specs.Rising.{Each}
 use Rattle.delivery.specs.declared.Delivery.{Delivery}
 use Rattle.delivery.specs.declared.Delivery.TheVariants.{Event as Told, Watermark, Ask, Mapping, Match}
-use Rattle.side_output.specs.declared.entry.Cause.{Cause}
+use Rattle.entity_state.specs.declared.entry.Cause.{Cause}
 use Rattle.replay_parts.specs.Checkpoint.{Checkpoint}
 
 -- the version of the mapping in force, and which entities hold a page that is mapped by the second version; all others hold by the

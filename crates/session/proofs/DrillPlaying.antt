@@ -12,7 +12,7 @@ use Rattle.replay_model.specs.ReplayState.{ReplayState, after_end, after_some, e
 use Rattle.replay_model.specs.Transcript.{Question, for_triples, for_bindings, asking, asks, matches, question_of}
 use Rattle.world.specs.WorldState.{WorldState}
 use Rattle.text_output.specs.Printing.{Output}
-use Rattle.drill.specs.{Drill.IsSize, Drill.contents_of, Drill.drill, Source.Source}
+use Rattle.drill_replay.specs.{Drill.IsSize, Drill.contents_of, Drill.drill, Source.Source}
 use Rattle.drill_replay.specs.declared.counts.DrillCounts.{DrillCounts}
 use Rattle.drill_replay.specs.Playing.{Counted, HasBegun, HasFew, IsByFirst, IsPartOf, StandsAtEnd, answer_of, with_answer}
 use Rattle.drill_replay.specs.Summary.{drilled, replies_of}

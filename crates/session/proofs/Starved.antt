@@ -4,7 +4,7 @@ use Rattle.wq_io.specs.{declared.sink.Sink.Ghosts as SinkOf, declared.source.Sou
 use Rattle.revisions.specs.declared.revisions.Revisions.{Ghosts as RevisionsOf}
 use Rattle.checkpoint.specs.{declared.fault.LoadFault.TheVariants.OutOfMemory as LoadOutOfMemory, declared.snapshots.Snapshots.Ghosts as SnapshotsOf}
 use Rattle.world.specs.WorldState.{WorldState}
-use Rattle.drill.specs.Drill.{drill}
+use Rattle.drill_replay.specs.Drill.{drill}
 use Rattle.following.specs.declared.stop.FollowStop.TheVariants.{OutOfMemory as FollowOutOfMemory}
 use Rattle.following.proofs.KnownBytes.{nothing_taken_of as nothing_followed}
 use Rattle.arguments.specs.{Options.follow_max_bytes_of, Options.max_bytes_of, Options.max_terms_of, declared.plan.Plan.Plan}

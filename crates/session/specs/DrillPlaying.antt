@@ -5,7 +5,7 @@ use Rattle.delivery.specs.declared.Delivery.{Delivery}
 use Rattle.replay_model.specs.ReplayState.{nothing_delivered}
 use Rattle.world.specs.WorldState.{WorldState}
 use Rattle.text_output.specs.Printing.{Output}
-use Rattle.drill.specs.{Drill.contents_of, Source.Source}
+use Rattle.drill_replay.specs.{Drill.contents_of, Source.Source}
 use Rattle.drill_replay.specs.Playing.{Counted, IsByFirst}
 use Rattle.session.specs.declared.drill_playing.DrillRun.{DrillRun}
 use Rattle.run_model.specs.{declared.report.Report.TheVariants.Answers, Moment.Beginning, Moment.Environment, Moment.IsFirst, Moment.Stage, Moment.reported_as}

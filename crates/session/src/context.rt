@@ -11,8 +11,7 @@ ghost use Rattle.run_model.specs.{Course.answer_text, Moment.HasWrittenOn};
 ghost use Rattle.run_model.specs.Delivering.{AnswersQuestion, HasNumberLeft, TellsStepBy, telling_of};
 
 use crate::replay::Replay;
-use delivery::Delivery;
-use graph_query::Query;
+use delivery::{Delivery, Query};
 use patch_stream::print_step;
 use rdf_term::Pattern;
 use run_model::{Report, Reported};

@@ -3,7 +3,7 @@
 ghost use Rattle.std.specs.Prelude.{◌≡◌, ◌+◌, ◌*◌, ◌<◌, None, IfOk, OnErr, OnOk};
 ghost use Rattle.replay_model.specs.ReplayState.{nothing_delivered};
 ghost use Rattle.text_output.specs.Printing.{Output, output};
-ghost use Rattle.drill.specs.Drill.{IsSize, drill};
+ghost use Rattle.drill_replay.specs.Drill.{IsSize, drill};
 ghost use Rattle.drill_replay.specs.Playing.{Counted, HasBegun, HasFew, IsByFirst, IsPartOf, StandsAtEnd};
 ghost use Rattle.drill_replay.specs.Summary.{drilled};
 ghost use Rattle.session.specs.DrillPlaying.{HasTakenFirst, LeavesDrill};
@@ -13,8 +13,7 @@ ghost use Rattle.rdf_term.specs.Limits.{default_max_terms};
 use crate::context::{Context, Incoming};
 use crate::delivering::{deliver, take_end};
 use crate::replay::Replay;
-use drill::{DrillRevisions, deliveries};
-use drill_replay::DrillCounts;
+use drill_replay::{DrillCounts, DrillRevisions, deliveries};
 use rdf_term::OutOfMemory;
 use run_model::{Halt, Report, Reported, Stop};
 use std::alloc::Global;

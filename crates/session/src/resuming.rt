@@ -15,13 +15,14 @@ use crate::remapping::begin_by_first;
 use crate::replay::{NOTHING_REPORTED, Replay};
 use crate::task::Task;
 use arguments::ReplayOptions;
-use checkpoint::{LoadFault, Loaded, load};
+use checkpoint::LoadFault;
 use graph_routes::Routes;
 use rdf_term::OutOfMemory;
 use run_model::Stop;
 use splitting::Graphs;
 use std::hash::RandomState;
 use world::World;
+use world_snapshots::{Loaded, load};
 use wq_io::Source;
 
 // Prepares the world. A first run begins with the first version of the mapping, the horizon that is asked for, if one is, and the limit. The

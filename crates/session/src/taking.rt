@@ -13,7 +13,7 @@ use crate::context::{Context, Incoming};
 use crate::delivering::deliver;
 use crate::replay::Replay;
 use crate::task::Task;
-use checkpoint::{Snapshots, save};
+use checkpoint::Snapshots;
 use delivery::Delivery;
 use event_line::{DeliveryFault, delivery};
 use revisions::Revisions;
@@ -21,6 +21,7 @@ use run_model::{LinesTaken, Ports, Report, Stop, is_mark};
 use snapshot::Counts;
 use std::alloc::Global;
 use text_output::Unwritten;
+use world_snapshots::save;
 use wq_io::{Lines, Sink, Source};
 
 // Takes all lines of the input; after each watermark all due events are applied before the next line is taken, and each question is

@@ -9,7 +9,7 @@ use Rattle.delivery.specs.declared.Delivery.{Delivery}
 use Rattle.event_line.specs.{declared.faults.LineCause.TheVariants.NotJson, Line.delivery_in, Line.else_cause}
 use Rattle.replay_model.specs.{Acceptance.version_in_force, Play.Replies, Play.newly_due, Play.play}
 use Rattle.patch_stream.specs.Stream.{Step, steps_applied, steps_of_play, steps_to_end}
-use Rattle.stream_laws.proofs.Bounds.{steps_few}
+use Rattle.written_laws.proofs.Bounds.{steps_few}
 use Rattle.graph_routes.specs.declared.routes.Route.{Route}
 use Rattle.run_model.specs.{Course.course_ended, Moment.Beginning, Moment.IsFirst, Moment.horizon_at}
 use Rattle.run_model.specs.Reading.{deliveries_of, line_delivers}

@@ -6,7 +6,7 @@ use Rattle.entity_model.specs.Event.{event_cmp, event_cmp_total, event_cmp_same}
 use Rattle.delivery.specs.declared.Delivery.{Delivery}
 use Rattle.delivery.specs.declared.Delivery.TheVariants.{Event as Told, Watermark, Ask, Mapping, Match}
 use Rattle.entity_state.specs.{State.is_kept, State.state_after, Record.held_revision, Record.wants, declared.record.Record.Record}
-use Rattle.side_output.specs.{declared.entry.Cause.Cause, declared.entry.Entry.TheVariants.Late}
+use Rattle.entity_state.specs.{declared.entry.Cause.Cause, declared.entry.Entry.TheVariants.Late}
 use Rattle.sorted_sets.specs.Rising.{has}
 use Rattle.sorted_sets.proofs.{Bools.and_left, Bools.and_right, Bools.or_true, Filtering.has-filter}
 use Rattle.sorted_sets.proofs.{Rising.has-append, Rising.has-sorted, Rising.has_itself, Pushes.by_pushes, Pushes.first_empty}

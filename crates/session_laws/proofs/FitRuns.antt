@@ -7,7 +7,7 @@ use Rattle.delivery.specs.declared.Delivery.{Delivery}
 use Rattle.event_line.specs.{declared.faults.LineCause.TheVariants.LineLong, Line.delivery_of}
 use Rattle.replay_model.specs.{Play.Replies, Transcript.pattern_of, Transcript.shapes_of}
 use Rattle.patch_stream.specs.Stream.{Step, has_change, is_change}
-use Rattle.stream_laws.proofs.Bounds.{filter_few}
+use Rattle.written_laws.proofs.Bounds.{filter_few}
 use Rattle.snapshot.specs.{declared.counts.Counts.Counts, Deliveries.IsFitDelivery}
 use Rattle.checkpoint.specs.Saved.{AreWithin}
 use Rattle.arguments.specs.Options.{closes, max_bytes_of}

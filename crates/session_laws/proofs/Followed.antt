@@ -9,10 +9,10 @@ use Rattle.fetched_pages.specs.Meaning.{meaning}
 use Rattle.replica.specs.{declared.record.PatchRecord.PatchRecord, Laws.IsGreatest, Record.record_lines, Replica.after}
 use Rattle.graph_routes.specs.declared.routes.Route.{Route}
 use Rattle.replica.proofs.Producers.{one_greatest}
-use Rattle.stream_laws.specs.Laws.{AreOfStream, IsChain}
+use Rattle.written_laws.specs.Laws.{AreOfStream, IsChain}
 use Rattle.patch_stream.specs.Stream.{Step, changes, stream, stream_text}
-use Rattle.stream_laws.proofs.{Bounds.few_enough, Bounds.few_so_far, Bounds.numbers_of, Chains.chain_of_play, Chains.chain_to_end}
-use Rattle.stream_laws.proofs.{Readable.HasFewTriples, Readable.all_of_stream, Readable.can_be_read, Sides.sides_so_far, Sides.sides_to_end, Streamed.after_stream, Streamed.all_there}
+use Rattle.written_laws.proofs.{Bounds.few_enough, Bounds.few_so_far, Bounds.numbers_of, Chains.chain_of_play, Chains.chain_to_end}
+use Rattle.written_laws.proofs.{Readable.HasFewTriples, Readable.all_of_stream, Readable.can_be_read, Sides.sides_so_far, Sides.sides_to_end, Streamed.after_stream, Streamed.all_there}
 use Rattle.arguments.specs.Options.{FollowChoices, closes, follow_max_bytes_of, max_bytes_of}
 use Rattle.following.specs.{Following.Ending as Followed, Following.FollowMoment, Following.replica_text, Reading.AreRecords}
 use Rattle.following.proofs.{Complete.found_records, Refusals.one_list}

@@ -12,11 +12,11 @@ use Rattle.replay_parts.specs.Checkpoint.{replies_of_runs}
 use Rattle.fetched_pages.specs.Meaning.{meaning}
 use Rattle.replica.specs.{declared.record.PatchRecord.PatchRecord, Laws.IsGreatest, Laws.IsRecordOf, Replica.after}
 use Rattle.replica.proofs.Producers.{after_is, one_greatest}
-use Rattle.stream_laws.specs.Laws.{AreOfStream, IsChain}
+use Rattle.written_laws.specs.Laws.{AreOfStream, IsChain}
 use Rattle.patch_stream.specs.Stream.{Step, changes, is_change, numbered_from, record_of_step, steps_of_play, stream}
 use Rattle.patch_stream.proofs.Streams.{numbered-append}
-use Rattle.stream_laws.proofs.Chains.{chain_of_play, chain_to_end}
-use Rattle.stream_laws.proofs.Streamed.{after_stream, all_there, chain_of_changes}
+use Rattle.written_laws.proofs.Chains.{chain_of_play, chain_to_end}
+use Rattle.written_laws.proofs.Streamed.{after_stream, all_there, chain_of_changes}
 use Rattle.snapshot.specs.declared.counts.Counts.{Counts}
 use Rattle.arguments.specs.Options.{FollowChoices, closes, follow_max_bytes_of}
 use Rattle.following.specs.{Following.Ending as Followed, Following.FollowMoment, Following.replica_text, Reading.AreRecords}

@@ -5,9 +5,9 @@ use Rattle.entity_model.specs.{declared.id.EntityId.EntityId, declared.event.Eve
 use Rattle.entity_state.specs.{declared.record.Held.Held, declared.record.Record.Record, declared.state.Mode.Mode}
 use Rattle.entity_state.specs.declared.state.Mode.TheVariants.{Unknown, Kept, Deleted}
 use Rattle.entity_state.specs.{State.is_kept, Record.held_revision, Record.is_held, Record.lacks}
-use Rattle.side_output.specs.declared.entry.Cause.{Cause}
-use Rattle.side_output.specs.declared.entry.Cause.TheVariants.{Missing, Failed, Unfit as NoDocument}
-use Rattle.side_output.specs.{declared.entry.Entry.Entry, declared.entry.Entry.TheVariants.Late, declared.entry.Entry.TheVariants.Revision}
+use Rattle.entity_state.specs.declared.entry.Cause.{Cause}
+use Rattle.entity_state.specs.declared.entry.Cause.TheVariants.{Missing, Failed, Unfit as NoDocument}
+use Rattle.entity_state.specs.{declared.entry.Entry.Entry, declared.entry.Entry.TheVariants.Late, declared.entry.Entry.TheVariants.Revision}
 use Rattle.sorted_sets.specs.Rising.{Each}
 use Rattle.sorted_sets.proofs.Bools.{and_left, and_right}
 use Rattle.replay_model.specs.{Entries.is_open_by, Entries.is_revision_of, Fate.is_of}

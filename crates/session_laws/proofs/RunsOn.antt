@@ -11,9 +11,9 @@ use Rattle.rdf_term.specs.Order.{triple_cmp}
 use Rattle.fetched_pages.specs.Meaning.{meaning}
 use Rattle.replica.specs.{declared.record.PatchRecord.PatchRecord, Laws.IsGreatest, Replica.after}
 use Rattle.replica.proofs.Producers.{after_is}
-use Rattle.stream_laws.specs.Laws.{BeginsAt, IsChain}
-use Rattle.stream_laws.proofs.Chains.{chain_of_play, chain_to_end}
-use Rattle.stream_laws.proofs.Streamed.{chain_of_changes}
+use Rattle.written_laws.specs.Laws.{BeginsAt, IsChain}
+use Rattle.written_laws.proofs.Chains.{chain_of_play, chain_to_end}
+use Rattle.written_laws.proofs.Streamed.{chain_of_changes}
 use Rattle.patch_stream.specs.Stream.{Step, changes, has_change, is_change, numbered_from, record_of_step, step, steps_of_play}
 use Rattle.patch_stream.proofs.Texts.{differs}
 use Rattle.snapshot.specs.declared.counts.Counts.{Counts}

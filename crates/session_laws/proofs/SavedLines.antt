@@ -10,14 +10,14 @@ use Rattle.delivery.specs.declared.Delivery.TheVariants.{Event as Told, Watermar
 use Rattle.entity_model.specs.{declared.event.Event.Event, EntityId.entity_cmp_total, Event.event_cmp}
 use Rattle.entity_state.specs.{Record.held_revision, Record.wants, State.state_after}
 use Rattle.reorder_buffer.specs.Watermarks.{floor, is_below, is_due}
-use Rattle.side_output.specs.{declared.entry.Cause.Cause, declared.entry.Entry.TheVariants.Late}
+use Rattle.entity_state.specs.{declared.entry.Cause.Cause, declared.entry.Entry.TheVariants.Late}
 use Rattle.replay_model.specs.Acceptance.{accepted, due, event_of, event_passing, events, is_accepted, is_late, mark}
 use Rattle.replay_model.specs.Fate.{in_order}
 use Rattle.replay_model.specs.Play.{Played, Replies, apply, apply_all, entries_after, entry_of, newly_due, nothing_played, play, records_after}
 use Rattle.replay_model.specs.{Records.Bytes, Records.record_of, ReplayState.following}
 use Rattle.replay_model.proofs.Arrivals.{events-push, events_passing-push, play-push}
 use Rattle.replay_model.proofs.{Deliveries.due-kept, Deliveries.due-told, DueParts.due-watermark}
-use Rattle.stream_laws.proofs.Bounds.{filter_few}
+use Rattle.written_laws.proofs.Bounds.{filter_few}
 use Rattle.snapshot.specs.declared.line.Line.TheVariants.{Remembered, Side}
 use Rattle.snapshot.specs.Whole.{Saved, entity_line, lines_before_end}
 

@@ -3,7 +3,7 @@ use Rattle.std.proofs.Common.{◌≡◌, refl, sym, subst, ◌∙◌, ap, ⊎_el
 use Rattle.std.specs.Option.{option_to_list}
 use Rattle.delivery.specs.{declared.Delivery.Delivery, declared.Delivery.TheVariants.Mapping}
 use Rattle.entity_model.specs.declared.mapping.MappingVersion.{MappingVersion}
-use Rattle.side_output.specs.declared.entry.Entry.{Entry}
+use Rattle.entity_state.specs.declared.entry.Entry.{Entry}
 use Rattle.replay_model.specs.{Play.Replies, Records.Bytes, Replies.failed_events, Replies.source_replies}
 use Rattle.replay_model.specs.ReplayState.{ReplayState, after_end, after_some}
 use Rattle.replay_model.specs.Transcript.{Question, Sections, for_bindings, for_triples, asking, asks, matches, question_of}

@@ -5,7 +5,7 @@ use Rattle.delivery.specs.declared.Delivery.{Delivery}
 use Rattle.delivery.specs.declared.Delivery.TheVariants.{Event as Told, Watermark, Ask, Mapping, Match}
 use Rattle.entity_model.specs.declared.event.Event.{Event}
 use Rattle.reorder_buffer.specs.Buffered.{answer_to, first_due}
-use Rattle.side_output.specs.declared.entry.Entry.{Entry}
+use Rattle.entity_state.specs.declared.entry.Entry.{Entry}
 use Rattle.replay_model.specs.{Play.Played, Play.Replies, Play.apply, Play.apply_all, Play.entries_after, Records.record_of}
 use Rattle.replay_model.specs.Replies.{failed_event, failed_events}
 use Rattle.replay_model.specs.ReplayState.{ReplayState, after_applying, after_due, after_end, after_mark, after_some, delivered, due_now, taken_entries}

@@ -18,7 +18,7 @@ ghost use Rattle.snapshot.specs.{File.IsFitSaved, File.saved_in_bytes, declared.
 ghost use Rattle.triple_store.specs.Room.{distinct};
 ghost use Rattle.wq_io.specs.Streams.{after_known};
 ghost use Rattle.replica.specs.declared.record.PatchRecord.{PatchRecord};
-ghost use Rattle.stream_laws.specs.Laws.{AreOfStream};
+ghost use Rattle.written_laws.specs.Laws.{AreOfStream};
 ghost use Rattle.patch_stream.specs.Stream.{Step, changes, steps_of_play, steps_to_end, stream, stream_text};
 ghost use Rattle.graph_routes.specs.declared.routes.Route.{Route};
 ghost use Rattle.arguments.specs.Options.{FollowChoices, closes, follow_max_bytes_of, max_bytes_of, max_terms_of};
@@ -38,8 +38,8 @@ ghost use Rattle.run_model.specs.{Remapping.IsFullOfStale, Remapping.held_triple
 ghost use Rattle.session_laws.specs.Complete.{FindsDocument, IsSaving, IsStill, has_document, steps_made, triples_in};
 ghost use Rattle.drill_replay.specs.Told.{terms_there};
 
-use checkpoint_laws::no_line_of_a_saved_world_is_refused;
 use snapshot::{replays_can_be_saved, snapshots_read_back};
+use written_laws::no_line_of_a_saved_world_is_refused;
 
 /// A replay or a patch stream ends with Ok or OutOfMemory if the arguments are understood, each line of the input is a delivery, the input
 /// is within the limit, no read or write fails, and there is room for the page that the least due event wants and for the next page to be

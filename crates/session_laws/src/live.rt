@@ -5,7 +5,7 @@ ghost use Rattle.sorted_sets.specs.Rising.{Each, In};
 ghost use Rattle.wq_io.specs.Streams.{after_known};
 ghost use Rattle.replica.specs.{declared.record.PatchRecord.PatchRecord, Laws.IsGreatest};
 ghost use Rattle.patch_stream.specs.Stream.{Step, changes, stream};
-ghost use Rattle.stream_laws.specs.Laws.{AreOfStream};
+ghost use Rattle.written_laws.specs.Laws.{AreOfStream};
 ghost use Rattle.snapshot.specs.{declared.counts.Counts.Counts, File.IsFitSaved, File.saved_in_bytes};
 ghost use Rattle.arguments.specs.Options.{FollowChoices, follow_max_bytes_of};
 ghost use Rattle.following.specs.{Following.Ending as Followed, Following.FollowMoment, Following.replica_text, Reading.AreRecords};

@@ -8,7 +8,7 @@ ghost use Rattle.event_line.specs.Line.{delivery_of};
 ghost use Rattle.graph_routes.specs.declared.routes.Route.{Route};
 ghost use Rattle.replay_model.specs.{Play.Replies, Records.Records, Union.Meaning, Union.union};
 ghost use Rattle.snapshot.specs.{Deliveries.IsFitDelivery, File.IsFitSaved};
-ghost use Rattle.splitting.specs.Graphs.{routing_by};
+ghost use Rattle.world.specs.Routed.{routing_by};
 ghost use Rattle.subgraph.specs.Laws.{routed_union};
 ghost use Rattle.fetched_pages.specs.Meaning.{meaning};
 ghost use Rattle.checkpoint.specs.Saved.{AreWithin};

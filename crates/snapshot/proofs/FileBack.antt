@@ -7,7 +7,7 @@ use Rattle.wq_io.specs.Lines.{IsOneLine, ended_lines, line_feed, lines}
 use Rattle.wq_io.proofs.LineLists.{lines-line, one_line-cons}
 use Rattle.entity_model.specs.{declared.id.EntityId.EntityId, declared.event.Event.Event, EntityId.IsId}
 use Rattle.entity_state.specs.declared.record.Record.{Record}
-use Rattle.side_output.specs.declared.entry.Entry.{Entry}
+use Rattle.entity_state.specs.declared.entry.Entry.{Entry}
 use Rattle.replay_model.specs.Records.{Bytes}
 use Rattle.snapshot.specs.declared.line.Line.{Line}
 use Rattle.snapshot.specs.declared.line.Line.TheVariants.{Remembered, Side, End}

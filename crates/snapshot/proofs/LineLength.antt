@@ -14,9 +14,9 @@ use Rattle.entity_model.specs.EntityId.{id_text}
 use Rattle.entity_state.specs.{declared.record.Held.Held, declared.state.Mode.Mode}
 use Rattle.entity_state.specs.declared.state.Mode.TheVariants.{Unknown, Kept, Deleted}
 use Rattle.entity_json.specs.Document.{page_limit, tree_of, document_in, document_or_cause, unfit_by, unfit_of}
-use Rattle.side_output.specs.declared.entry.Cause.{Cause}
-use Rattle.side_output.specs.declared.entry.Cause.TheVariants.{Missing, Failed, Unfit as NoDocument}
-use Rattle.side_output.specs.declared.entry.Entry.TheVariants.{Late, Revision}
+use Rattle.entity_state.specs.declared.entry.Cause.{Cause}
+use Rattle.entity_state.specs.declared.entry.Cause.TheVariants.{Missing, Failed, Unfit as NoDocument}
+use Rattle.entity_state.specs.declared.entry.Entry.TheVariants.{Late, Revision}
 use Rattle.replay_model.specs.{Records.Bytes, Replies.HoldsDocument, Transcript.kind_word, Transcript.cause_word, Transcript.unfit_word}
 use Rattle.snapshot.specs.declared.line.Line.{Line}
 use Rattle.snapshot.specs.declared.line.Line.TheVariants.{Head as Begins, Remembered, Entity, Side, End}

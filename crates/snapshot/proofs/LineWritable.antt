@@ -5,7 +5,7 @@ use Rattle.std.specs.Prelude.{FitsSigned}
 use Rattle.entity_model.specs.{declared.event.Event.Event, declared.mapping.MappingVersion.MappingVersion}
 use Rattle.entity_model.specs.declared.mapping.MappingVersion.TheVariants.{One, Two}
 use Rattle.entity_state.specs.declared.record.Held.{Held}
-use Rattle.side_output.specs.declared.entry.Entry.TheVariants.{Late, Revision}
+use Rattle.entity_state.specs.declared.entry.Entry.TheVariants.{Late, Revision}
 use Rattle.replay_model.specs.Records.{Bytes}
 use Rattle.snapshot.specs.declared.line.Line.{Line}
 use Rattle.snapshot.specs.declared.line.Line.TheVariants.{Head as Begins, Remembered, Entity, Side, End}

@@ -15,7 +15,7 @@ use Rattle.delivery.specs.declared.Delivery.TheVariants.{Event as Told, Watermar
 use Rattle.entity_state.specs.{declared.record.Held.Held, declared.record.Record.Record, declared.state.State.State}
 use Rattle.entity_state.specs.State.{kept, deleted, after_kind, state_after, is_deleted}
 use Rattle.entity_state.specs.{Record.blank, Record.held_revision, Record.wants, Standing.is_reconciliation, Standing.reconciled_after}
-use Rattle.side_output.specs.{declared.entry.Cause.Cause, declared.entry.Entry.Entry, declared.entry.Entry.TheVariants.Late}
+use Rattle.entity_state.specs.{declared.entry.Cause.Cause, declared.entry.Entry.Entry, declared.entry.Entry.TheVariants.Late}
 use Rattle.reorder_buffer.specs.Watermarks.{greater, is_due, floor, is_below}
 use Rattle.replay_model.specs.Acceptance.{arrivals_after, watermark_of, event_passing, events_passing, events, mark, is_late, is_accepted, due}
 use Rattle.replay_model.specs.Fate.{in_order}

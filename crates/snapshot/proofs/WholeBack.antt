@@ -10,7 +10,7 @@ use Rattle.sorted_sets.proofs.Keys.{and_first, and_second, less}
 use Rattle.entity_model.specs.{declared.id.EntityId.EntityId, declared.event.Event.Event}
 use Rattle.entity_model.specs.EntityId.{entity_cmp, entity_cmp_total, entity_cmp_same}
 use Rattle.entity_state.specs.declared.record.Record.{Record}
-use Rattle.side_output.specs.declared.entry.Entry.{Entry}
+use Rattle.entity_state.specs.declared.entry.Entry.{Entry}
 use Rattle.replay_model.specs.{Records.Bytes, Records.Records, ReplayState.ReplayState}
 use Rattle.snapshot.specs.declared.line.Line.{Line}
 use Rattle.snapshot.specs.declared.line.Line.TheVariants.{Remembered, Side, End}

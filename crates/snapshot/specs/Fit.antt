@@ -3,7 +3,7 @@ use Rattle.std.specs.Prelude.{⊤, ◌<◌, ◌^◌, IfSome, FitsSigned}
 use Rattle.std.specs.Int.{w64}
 use Rattle.entity_model.specs.{declared.event.Event.Event, EntityId.IsId}
 use Rattle.entity_state.specs.declared.record.Record.{Record}
-use Rattle.side_output.specs.{declared.entry.Entry.Entry, declared.entry.Entry.TheVariants.Late, declared.entry.Entry.TheVariants.Revision}
+use Rattle.entity_state.specs.{declared.entry.Entry.Entry, declared.entry.Entry.TheVariants.Late, declared.entry.Entry.TheVariants.Revision}
 use Rattle.entity_json.specs.Document.{unfit_of}
 use Rattle.replay_model.specs.{Records.Bytes, Replies.HoldsDocument}
 use Rattle.snapshot.specs.{declared.counts.Counts.Counts, declared.line.Head.Head, declared.line.Line.Line}

@@ -5,7 +5,7 @@ use Rattle.std.specs.Str.{bytes_eq}
 use Rattle.serde_json.specs.{Data.Data, Find.get, Find.as_null, Find.as_number, Find.as_str, Find.as_u64, Find.as_i64}
 use Rattle.entity_model.specs.{declared.id.EntityId.EntityId, declared.event.Event.Event, IdOf.id_of}
 use Rattle.entity_state.specs.{declared.record.Held.Held, declared.record.Record.Record, declared.state.State.State}
-use Rattle.side_output.specs.{declared.entry.Entry.Entry, declared.entry.Entry.TheVariants.Late, declared.entry.Entry.TheVariants.Revision}
+use Rattle.entity_state.specs.{declared.entry.Entry.Entry, declared.entry.Entry.TheVariants.Late, declared.entry.Entry.TheVariants.Revision}
 use Rattle.replay_model.specs.Records.{Bytes}
 use Rattle.snapshot.specs.{declared.counts.Counts.Counts, declared.line.Head.Head, declared.line.Line.Line}
 use Rattle.snapshot.specs.declared.line.Line.TheVariants.{Head as Begins, Remembered, Entity, Side, End}

@@ -4,7 +4,7 @@ use Rattle.std.specs.FinMap as finite
 use Rattle.entity_model.specs.{declared.id.EntityId.EntityId, declared.event.Event.Event, declared.mapping.MappingVersion.MappingVersion}
 use Rattle.reorder_buffer.specs.Buffered.{after_taking}
 use Rattle.entity_state.specs.declared.record.Record.{Record}
-use Rattle.side_output.specs.declared.entry.Entry.{Entry}
+use Rattle.entity_state.specs.declared.entry.Entry.{Entry}
 use Rattle.replay_model.specs.{Play.nothing_played, Records.Bytes, ReplayState.ReplayState}
 use Rattle.snapshot.specs.{Waiting.at_mark, declared.counts.Counts.Counts, declared.line.Head.Head, declared.line.Line.Line}
 use Rattle.snapshot.specs.declared.line.Line.TheVariants.{Head as Begins, Remembered, Entity, Side, End}

@@ -2,9 +2,8 @@
 
 use crate::counts::Counts;
 use entity_model::{EntityId, Event, MappingVersion};
-use entity_state::Record;
+use entity_state::{Entry, Record};
 use rdf_term::Text;
-use side_output::Entry;
 
 /// What a snapshot says before its other lines.
 #[derive(Clone, Copy)]

@@ -9,10 +9,9 @@ use crate::head_reading::head;
 use crate::line::Line;
 use crate::words::{cause_named, kind_named, mode_named};
 use entity_model::{EntityId, Event, Kind};
-use entity_state::{Held, Record, State};
+use entity_state::{Entry, Held, Record, State};
 use rdf_term::{OutOfMemory, Text};
 use serde_json::Value;
-use side_output::Entry;
 use std::alloc::Global;
 
 /// The line that a value is, with the page that stands behind it, if one does.

@@ -4,8 +4,7 @@ ghost use Rattle.std.specs.Prelude.{◌≡◌};
 ghost use Rattle.snapshot.specs.Words.{kind_named, cause_named, mode_named, version_numbered};
 
 use entity_model::{Kind, MappingVersion, Unfit};
-use entity_state::Mode;
-use side_output::Cause;
+use entity_state::{Cause, Mode};
 
 /// The version of the mapping with that number.
 pub(crate) fn version_numbered(number: u64) -> Option<MappingVersion>

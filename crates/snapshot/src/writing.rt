@@ -8,11 +8,10 @@ ghost use Rattle.snapshot.specs.LineData.{has_line_feed, if_some, nat_data, int_
 
 use crate::line::{Head, Line};
 use entity_model::{EntityId, Event, MappingVersion};
-use entity_state::{Held, Mode, Record};
+use entity_state::{Entry, Held, Mode, Record};
 use rdf_term::{OutOfMemory, Text};
 use replay_model::{cause_word, kind_word};
 use serde_json::{Map, Value};
-use side_output::Entry;
 use std::alloc::Global;
 
 /// The value of a line, but for a page that stands behind a record.

@@ -12,7 +12,7 @@ use Rattle.entity_model.specs.{declared.mapping.MappingVersion.TheVariants.One, 
 use Rattle.entity_state.specs.{declared.record.Held.Held, declared.record.Record.Record, Record.blank, Record.held_revision, Record.wants}
 use Rattle.entity_state.specs.State.{is_deleted, state_after}
 use Rattle.revisions.specs.Revisions.{Contents}
-use Rattle.side_output.specs.declared.entry.Cause.{Cause}
+use Rattle.entity_state.specs.declared.entry.Cause.{Cause}
 use Rattle.replay_model.specs.Play.{held_after_fetch, record_after, records_after}
 use Rattle.replay_model.specs.{Records.Bytes, Records.Records, Records.record_of, ReplayState.ReplayState}
 use Rattle.replay_model.specs.Versions.{meaning_by, version_at, with_version}
@@ -21,11 +21,11 @@ use Rattle.subgraph.specs.{Entries.Entries, Entries.Entry, Laws.IsSplitOf, Laws.
 use Rattle.world.specs.{declared.applied.AppliedEvent.AppliedEvent, declared.applied.Outcome.Outcome}
 use Rattle.world.specs.declared.applied.Outcome.TheVariants.{Same, Stored, Dropped, Sided}
 use Rattle.world.specs.{declared.applied.RoutedPage.RoutedPage, Applying.Applies, Applying.outcome_of_reply}
-use Rattle.world.specs.Routed.{AreTriplesOf, GivesPage}
+use Rattle.world.specs.Routed.{AreTriplesOf, GivesPage, routing_by}
 use Rattle.world.specs.WorldState.{AreHolders, WorldState, by_two_after, next_stale, remapped, with_version_of}
 use Rattle.fetched_pages.specs.{Meaning.meaning, Routing.route_if, Routing.route_of_page}
 use Rattle.world.proofs.{ByVersion.version_other, ByVersion.version_own, Giving.recorded, Pieced.id_tells}
-use Rattle.splitting.specs.Graphs.{AreEntriesAfter, AreEntriesAnew, AreEntriesOf, IsSound, routing_by}
+use Rattle.splitting.specs.Graphs.{AreEntriesAfter, AreEntriesAnew, AreEntriesOf, IsSound}
 
 -- ---- routes
 

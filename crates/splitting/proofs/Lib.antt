@@ -4,4 +4,3 @@ pub mod Pieces
 pub mod Placed
 pub mod Printed
 pub mod Roomed
-pub mod Versions

@@ -1,14 +1,9 @@
--- The texts of graphs, one after the other.
+-- The texts of graphs that are printed one after the other.
 use Rattle.std.proofs.Common.{◌≡◌, refl, sym, ◌∙◌, ap, ℕ, zero, suc, ◌+◌, ◌≤◌, ◌-◌, List, [], ◌++◌, Ok, Err, append_assoc, append-nil, add-one, arith}
 use Rattle.text_output.specs.{declared.write.Unwritten.Unwritten, Printing.Output, Printing.Prints}
 use Rattle.text_output.specs.declared.write.Unwritten.TheVariants.{OutOfMemory}
 use Rattle.text_output.proofs.Parts.{cut_short_at_once, prints_both, prints_first}
-use Rattle.splitting.specs.Sections.{texts_below}
-
--- the same texts
-pub below-same : (f g : ℕ → List ℕ) → ((i : ℕ) → f i ≡ g i) → (n : ℕ) → texts_below n f ≡ texts_below n g
-below-same f g same zero = refl
-below-same f g same (suc n) = ap (λ l. l ++ f n) (below-same f g same n) ∙ ap (λ l. texts_below n g ++ l) (same n)
+use Rattle.subgraph.specs.Sections.{texts_below}
 
 module _ (text : ℕ → List ℕ) where
   -- the text of the next graph

@@ -4,13 +4,12 @@ use Rattle.rdf_term.specs.{declared.pattern.Pattern.Pattern, declared.triple.Tri
 use Rattle.replay_model.specs.Versions.{meaning_by}
 use Rattle.graph_routes.specs.{declared.routes.Route.Route, Routes.graph_name}
 use Rattle.subgraph.specs.{Entries.Entries, Entries.graph_triples, Laws.routed_union}
-use Rattle.subgraph.proofs.Routed.{follow_the_records}
+use Rattle.subgraph.specs.Sections.{graph_answer, graph_answers, graph_section, graph_sections, texts_below}
+use Rattle.subgraph.proofs.{Routed.follow_the_records, Sections.below-same}
 use Rattle.text_output.specs.{declared.write.Unwritten.Unwritten, Printing.Output, Printing.Prints}
 use Rattle.fetched_pages.specs.Meaning.{meaning}
-use Rattle.world.specs.WorldState.{WorldState}
-use Rattle.splitting.specs.Graphs.{AreEntriesOf, routing_by}
-use Rattle.splitting.specs.Sections.{graph_answer, graph_answers, graph_section, graph_sections, texts_below}
-use Rattle.splitting.proofs.Pieces.{below-same}
+use Rattle.world.specs.{Routed.routing_by, WorldState.WorldState}
+use Rattle.splitting.specs.Graphs.{AreEntriesOf}
 
 module _ (routes : List Route) (entries : Entries) where
   -- the answer of a graph, and the section of one

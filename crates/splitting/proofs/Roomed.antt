@@ -11,10 +11,10 @@ use Rattle.subgraph.specs.{Entries.Entries, Entries.graph_triples, Entries.terms
 use Rattle.subgraph.proofs.Routed.{fewer_terms, need_no_more_room}
 use Rattle.world.specs.declared.applied.Outcome.{Outcome}
 use Rattle.world.specs.declared.applied.Outcome.TheVariants.{Same, Stored, Dropped, Sided}
-use Rattle.world.specs.{declared.applied.RoutedPage.RoutedPage, Roomed.room_with, Routed.AreTriplesOf, Routed.GivesPage}
+use Rattle.world.specs.{declared.applied.RoutedPage.RoutedPage, Roomed.room_with, Routed.AreTriplesOf, Routed.GivesPage, Routed.routing_by}
 use Rattle.world.specs.WorldState.{WorldState, next_stale, triples_anew, triples_of}
 use Rattle.fetched_pages.specs.Meaning.{meaning}
-use Rattle.splitting.specs.Graphs.{AreEntriesOf, GraphsState, HasRoomAnewIn, HasRoomIn, MayFollow, MayHaveRoom, MayHaveRoomAnew, routes_of, routing_by}
+use Rattle.splitting.specs.Graphs.{AreEntriesOf, GraphsState, HasRoomAnewIn, HasRoomIn, MayFollow, MayHaveRoom, MayHaveRoomAnew, routes_of}
 use Rattle.splitting.proofs.Following.{held_in}
 
 module _ (routes : List Route) (limit : ℕ) (entries : Entries) (world : WorldState) (follows : AreEntriesOf routes limit world entries) where

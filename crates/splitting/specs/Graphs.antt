@@ -7,12 +7,12 @@ use Rattle.rdf_term.specs.{declared.triple.Triple.Triple, Fit.HasFitAndShortTerm
 use Rattle.entity_model.specs.declared.id.EntityId.{EntityId}
 use Rattle.replay_model.specs.Versions.{meaning_by}
 use Rattle.graph_routes.specs.declared.routes.Route.{Route}
-use Rattle.subgraph.specs.{Entries.Entries, Entries.graph_triples, Entries.terms_with, Laws.IsSplitOf, Laws.Routing}
+use Rattle.subgraph.specs.{Entries.Entries, Entries.graph_triples, Entries.terms_with, Laws.IsSplitOf}
 use Rattle.subgraph.specs.Split.{entry, graph_of}
 use Rattle.world.specs.declared.applied.Outcome.{Outcome}
 use Rattle.world.specs.declared.applied.Outcome.TheVariants.{Same, Stored, Dropped, Sided}
-use Rattle.world.specs.{declared.applied.RoutedPage.RoutedPage, WorldState.AreHolders, WorldState.WorldState}
-use Rattle.fetched_pages.specs.{Meaning.meaning, Routing.route_of_page}
+use Rattle.world.specs.{declared.applied.RoutedPage.RoutedPage, Routed.routing_by, WorldState.AreHolders, WorldState.WorldState}
+use Rattle.fetched_pages.specs.Meaning.{meaning}
 use Rattle.text_output.specs.{declared.write.Unwritten.Unwritten, declared.write.Unwritten.TheVariants.OutOfMemory, Printing.Output}
 
 -- graphs: the routes; how many distinct terms each graph may have; and the entry of each entity, which is the index of its graph and its
@@ -21,10 +21,6 @@ pub record GraphsState : Type 0 where
   pub routes : List Route
   pub limit : ℕ
   pub entries : Option Entries
-
--- pages are routed by these routes
-abbrev pub routing_by : List Route → Routing
-routing_by routes x rev bytes = route_of_page routes x bytes
 
 -- each entity has its entry by what it holds: the graph that its page is routed to, and the triples that the page means by the version
 -- that it is mapped by; and each graph may have as many terms as the world

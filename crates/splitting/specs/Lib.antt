@@ -1,4 +1,3 @@
 pub mod Codes
 pub mod Filling
 pub mod Graphs
-pub mod Sections

@@ -2,12 +2,11 @@
 
 ghost use Rattle.rdf_term.specs.Pattern.{rows};
 ghost use Rattle.replay_model.specs.Versions.{meaning_by};
-ghost use Rattle.subgraph.specs.Laws.{routed_union};
+ghost use Rattle.subgraph.specs.{Laws.routed_union, Sections.graph_answer, Sections.graph_answers, Sections.graph_section, Sections.graph_sections};
 ghost use Rattle.text_output.specs.Printing.{Prints, output};
 ghost use Rattle.fetched_pages.specs.Meaning.{meaning};
-ghost use Rattle.world.specs.WorldState.{WorldState};
-ghost use Rattle.splitting.specs.Graphs.{Follow, PrintNothingIfLost, routing_by};
-ghost use Rattle.splitting.specs.Sections.{graph_answer, graph_answers, graph_section, graph_sections};
+ghost use Rattle.world.specs.{Routed.routing_by, WorldState.WorldState};
+ghost use Rattle.splitting.specs.Graphs.{Follow, PrintNothingIfLost};
 
 use crate::graphs::Graphs;
 use crate::lines::{graph_answer_line, graph_line};

@@ -1,8 +1,8 @@
 //! Entities have their triples in one of several graphs, and move when they are routed to another.
 //!
 //! `graph` has the triples of the entities of one graph, and `split` the graphs together: each entity has its triples in one of them at most.
-//! `placing` has the steps of that over the list of the graphs. `laws` has what holds of the definitions themselves. The crate `graph_routes`
-//! says which graph a document goes to.
+//! `placing` has the steps of that over the list of the graphs. `laws` has what holds of the definitions themselves, and `specs/Sections.antt`
+//! says what is printed of graphs. The crate `graph_routes` says which graph a document goes to.
 #![tactic(auto)]
 
 mod graph;

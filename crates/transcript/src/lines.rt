@@ -4,10 +4,9 @@ ghost use Rattle.std.specs.Prelude.{◌≡◌, IfOk, string_bytes};
 ghost use Rattle.replay_model.specs.Transcript.{ask_head, entry_line, entry_word, entry_words, event_words, match_head, mode_line, open_word, side_line, state_line, stated_line};
 
 use entity_model::{EntityId, Event};
-use entity_state::{Mode, State};
+use entity_state::{Entry, Mode, State};
 use rdf_term::OutOfMemory;
 use replay_model::{cause_word, kind_word};
-use side_output::Entry;
 use std::alloc::Global;
 
 // The first line of the answer to the question with this number.

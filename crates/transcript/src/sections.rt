@@ -6,7 +6,8 @@ ghost use Rattle.replay_model.specs.Transcript.{ask_section, export_section, sid
 ghost use Rattle.replay_model.specs.{Union.union, Versions.meaning_by};
 ghost use Rattle.fetched_pages.specs.Meaning.{meaning};
 ghost use Rattle.text_output.specs.Printing.{Prints, output};
-ghost use Rattle.transcript.specs.Sections.{chosen, closing_of};
+ghost use Rattle.replay_parts.specs.Closing.{closing_of};
+ghost use Rattle.transcript.specs.Sections.{chosen};
 
 use crate::entries::print_entries;
 use crate::lines::answer_line;

@@ -1,12 +1,12 @@
 // Deliveries and pages that were worked out by hand from the rules of a drill.
 
-ghost use Rattle.drill.specs.Drill.{IsSize};
+ghost use Rattle.drill_replay.specs.Drill.{IsSize};
 
 use crate::checks::{check, halves};
 use crate::folders::check_fetch;
 use anyhow::Result;
 use delivery::Delivery;
-use drill::{DrillRevisions, deliveries};
+use drill_replay::{DrillRevisions, deliveries};
 use entity_documents::document;
 use entity_json::{DocumentFault, discard};
 use entity_model::{Document, EntityId, IdKind, Kind};

@@ -4,7 +4,7 @@ use Rattle.entity_model.specs.{declared.event.Event.Event, declared.mapping.Mapp
 use Rattle.entity_state.specs.{Standing.standing_after, Standing.standing_of, Standing.standing_wants, State.state_after}
 use Rattle.reorder_buffer.specs.Buffered.{Buffered, first_due}
 use Rattle.revisions.specs.Revisions.{Contents}
-use Rattle.side_output.specs.declared.entry.{Cause.Cause, Entry.Entry}
+use Rattle.entity_state.specs.declared.entry.{Cause.Cause, Entry.Entry}
 use Rattle.replay_model.specs.Records.{record_of}
 use Rattle.term_pool.specs.declared.fault.PoolFault.{PoolFault}
 use Rattle.term_pool.specs.declared.fault.PoolFault.TheVariants.{Full as StoreFull, OutOfMemory as StoreOutOfMemory}

@@ -5,7 +5,7 @@ use Rattle.entity_state.specs.{declared.record.Held.Held, declared.record.Record
 use Rattle.entity_state.specs.State.{is_deleted, state_after}
 use Rattle.replay_model.specs.Play.{Played, apply, held_after_fetch, record_after, records_after}
 use Rattle.replay_model.specs.Records.{Bytes, Records, record_of}
-use Rattle.side_output.specs.declared.entry.Cause.{Cause}
+use Rattle.entity_state.specs.declared.entry.Cause.{Cause}
 use Rattle.graph_routes.specs.declared.routes.Route.{Route}
 use Rattle.world.specs.declared.applied.Outcome.{Outcome}
 use Rattle.world.specs.declared.applied.Outcome.TheVariants.{Same, Stored, Dropped, Sided}

@@ -8,7 +8,7 @@ use Rattle.entity_model.specs.declared.mapping.MappingVersion.TheVariants.{One, 
 use Rattle.entity_model.specs.EntityId.{entity_cmp, entity_cmp_total}
 use Rattle.entity_state.specs.{declared.record.Held.Held, declared.record.Record.Record, State.is_deleted, State.state_after}
 use Rattle.entity_state.specs.Record.{held_revision, wants}
-use Rattle.side_output.specs.declared.entry.Cause.{Cause}
+use Rattle.entity_state.specs.declared.entry.Cause.{Cause}
 use Rattle.revisions.specs.Revisions.{Contents}
 use Rattle.replay_model.specs.Play.{held_after_fetch, nothing_played}
 use Rattle.replay_model.specs.PlayedVersions.{by_two_after_event, by_two_remapped}

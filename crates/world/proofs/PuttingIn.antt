@@ -6,7 +6,7 @@ use Rattle.entity_model.specs.{declared.id.EntityId.EntityId, declared.mapping.M
 use Rattle.entity_state.specs.{declared.record.Held.Held, declared.record.Record.Record, State.is_kept}
 use Rattle.entity_state.specs.Record.{held_revision, is_held}
 use Rattle.entity_json.specs.Document.{unfit_of}
-use Rattle.side_output.specs.declared.entry.Entry.{Entry}
+use Rattle.entity_state.specs.declared.entry.Entry.{Entry}
 use Rattle.replay_model.specs.{Entries.HoldsUnlessOpen, Entries.is_of_revision, Entries.is_open_by, Entries.is_revision_of, Play.Played}
 use Rattle.replay_model.specs.{Records.Bytes, Records.Records, Records.record_of, Records.is_settled, Replies.HoldsDocument}
 use Rattle.replay_model.specs.Versions.{all_by}

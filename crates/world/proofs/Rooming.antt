@@ -12,7 +12,7 @@ use Rattle.triple_store.specs.{Counts.Counts, Counts.HaveOwners, Counts.count_of
 use Rattle.triple_store.specs.StoreState.{StoreState, beside, counts_in, limit_of}
 use Rattle.entity_model.specs.{declared.event.Event.Event, declared.mapping.MappingVersion.MappingVersion}
 use Rattle.entity_state.specs.{declared.record.Record.Record, Record.held_revision, Record.wants, State.is_deleted, State.state_after}
-use Rattle.side_output.specs.declared.entry.Cause.{Cause}
+use Rattle.entity_state.specs.declared.entry.Cause.{Cause}
 use Rattle.triple_store.proofs.Laid.{sound_owned, sound_room}
 use Rattle.replay_model.specs.Records.{Bytes, Records, record_of}
 use Rattle.replay_model.specs.Play.{held_after_fetch, record_after, records_after}

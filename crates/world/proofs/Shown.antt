@@ -4,7 +4,7 @@ use Rattle.std.specs.Prelude.{IfSome, if◌then◌else◌}
 use Rattle.entity_model.specs.declared.event.Event.{Event}
 use Rattle.entity_state.specs.{Record.held_revision, Record.wants, State.is_deleted, State.state_after}
 use Rattle.revisions.specs.Revisions.{counted}
-use Rattle.side_output.specs.declared.entry.Cause.{Cause}
+use Rattle.entity_state.specs.declared.entry.Cause.{Cause}
 use Rattle.replay_model.specs.Records.{Records, record_of}
 use Rattle.fetched_pages.specs.{declared.fetching.FetchedPage.FetchedPage, Fetched.reply_of, Fetched.reply_or_any, Reply.ShowsReply}
 use Rattle.world.specs.declared.applied.Outcome.{Outcome}

@@ -3,7 +3,7 @@ use Rattle.std.specs.Prelude.{◌≡◌, ℕ, cond, List, Option, None, Some, Re
 use Rattle.entity_model.specs.declared.event.Event.{Event}
 use Rattle.entity_state.specs.{declared.record.Held.Held, declared.state.Mode.Mode, declared.state.State.State}
 use Rattle.entity_state.specs.{declared.record.Record.Record, State.state_after, State.is_deleted, Record.held_revision, Record.wants}
-use Rattle.side_output.specs.declared.entry.Cause.{Cause}
+use Rattle.entity_state.specs.declared.entry.Cause.{Cause}
 use Rattle.revisions.specs.Revisions.{Contents, counted}
 use Rattle.reorder_buffer.specs.Buffered.{first_due, after_dropping}
 use Rattle.replay_model.specs.{Records.Bytes, Records.record_of, Play.apply, ReplayState.ReplayState}

@@ -6,8 +6,8 @@ use Rattle.entity_model.specs.{declared.id.EntityId.EntityId, declared.mapping.M
 use Rattle.entity_model.specs.contracts.id.EntityId as entity_id
 use Rattle.entity_model.specs.contracts.mapping.MappingVersion as mapping_version
 use Rattle.entity_state.specs.Tabled.{record_code}
-use Rattle.side_output.specs.declared.entry.Entry.{Entry}
-use Rattle.side_output.specs.contracts.entry.Entry as entry
+use Rattle.entity_state.specs.declared.entry.Entry.{Entry}
+use Rattle.entity_state.specs.contracts.entry.Entry as entry
 use Rattle.replay_model.specs.{Records.Records, Play.Played, ReplayState.ReplayState}
 use Rattle.reorder_buffer.specs.Buffered.{Buffered}
 use Rattle.world.specs.{Holders.ByVersion, WorldState.HoldingsState, WorldState.WorldState}

@@ -7,7 +7,7 @@ use Rattle.entity_model.specs.declared.mapping.MappingVersion.TheVariants.{One}
 use Rattle.entity_state.specs.{declared.record.Held.Held, declared.record.Record.Record, State.is_kept}
 use Rattle.entity_state.specs.Record.{held_revision, is_held}
 use Rattle.entity_json.specs.Document.{unfit_of}
-use Rattle.side_output.specs.declared.entry.Entry.{Entry}
+use Rattle.entity_state.specs.declared.entry.Entry.{Entry}
 use Rattle.replay_model.specs.{Entries.is_of_revision, Entries.is_open_by, Entries.is_revision_of, Records.Bytes, Records.is_settled}
 use Rattle.replay_model.specs.{Replies.HoldsDocument, Versions.with_version}
 use Rattle.world.specs.WorldState.{WorldState}

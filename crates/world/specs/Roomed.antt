@@ -6,7 +6,7 @@ use Rattle.entity_model.specs.{declared.id.EntityId.EntityId, declared.event.Eve
 use Rattle.entity_state.specs.{Standing.standing_after, Standing.standing_of, Standing.standing_wants, State.state_after}
 use Rattle.reorder_buffer.specs.Buffered.{first_due}
 use Rattle.revisions.specs.Revisions.{Contents}
-use Rattle.side_output.specs.declared.entry.Cause.{Cause}
+use Rattle.entity_state.specs.declared.entry.Cause.{Cause}
 use Rattle.triple_store.specs.Room.{distinct, terms_of}
 use Rattle.replay_model.specs.{Records.Bytes, Records.Records, Records.record_of, Union.Meaning, Union.union, Versions.meaning_by}
 use Rattle.fetched_pages.specs.{Reply.IsReply, Meaning.meaning}

@@ -1,4 +1,4 @@
--- What is given back of a page that was stored or remapped.
+-- The graph that a page is routed to, and what is given back of one that was stored or remapped.
 use Rattle.std.specs.Prelude.{◌≡◌, ℕ, ⊤, List, Option, None, Some, Result, Ok, Err, option_map}
 use Rattle.std.specs.List.{AllByRecursion}
 use Rattle.sorted_sets.specs.Rising.{sorted}
@@ -6,7 +6,7 @@ use Rattle.rdf_term.specs.{declared.triple.Triple.Triple, Fit.HasFitAndShortTerm
 use Rattle.entity_model.specs.{declared.id.EntityId.EntityId, declared.mapping.MappingVersion.MappingVersion}
 use Rattle.entity_state.specs.declared.record.Held.{Held}
 use Rattle.replay_model.specs.{Records.Bytes, Union.triples_held}
-use Rattle.side_output.specs.declared.entry.Cause.{Cause}
+use Rattle.entity_state.specs.declared.entry.Cause.{Cause}
 use Rattle.graph_routes.specs.declared.routes.Route.{Route}
 use Rattle.world.specs.declared.applied.Outcome.{Outcome}
 use Rattle.world.specs.declared.applied.Outcome.TheVariants.{Same, Stored, Dropped, Sided}
@@ -14,6 +14,10 @@ use Rattle.world.specs.declared.applied.RoutedPage.{RoutedPage}
 use Rattle.fetched_pages.specs.declared.fetching.FetchedPage.{FetchedPage}
 use Rattle.fetched_pages.specs.declared.fetching.FetchedPage.TheVariants.{Whole, Changed}
 use Rattle.fetched_pages.specs.{Meaning.meaning, Routing.route_of_page}
+
+-- the graph that the bytes of a revision of x are routed to by these routes
+abbrev pub routing_by : List Route → EntityId → ℕ → Bytes → ℕ
+routing_by routes x rev bytes = route_of_page routes x bytes
 
 -- the triples of a page with the graph that it is routed to
 abbrev pub with_route : Option ℕ → List Triple → Option RoutedPage

@@ -5,7 +5,7 @@ use Rattle.rdf_term.specs.{declared.triple.Triple.Triple, Order.triple_cmp}
 use Rattle.entity_model.specs.{declared.id.EntityId.EntityId, declared.mapping.MappingVersion.MappingVersion}
 use Rattle.entity_model.specs.declared.mapping.MappingVersion.TheVariants.{One, Two}
 use Rattle.entity_model.specs.EntityId.{entity_cmp}
-use Rattle.side_output.specs.declared.entry.Entry.{Entry}
+use Rattle.entity_state.specs.declared.entry.Entry.{Entry}
 use Rattle.replay_model.specs.{Records.Records, Records.record_of, Play.Played, ReplayState.ReplayState}
 use Rattle.replay_model.specs.Union.{Meaning, triples_held, union}
 use Rattle.replay_model.specs.Versions.{holders, is_holder, meaning_by, version_at, with_version}

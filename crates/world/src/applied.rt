@@ -4,8 +4,8 @@ ghost use Rattle.std.specs.Prelude.{◌≡◌};
 ghost use Rattle.world.specs.{Applying.fault_of_store, declared.applied.WorldFault.TheVariants.OutOfMemory as WorldOutOfMemory};
 
 use entity_model::{EntityId, Event, MappingVersion};
+use entity_state::Cause;
 use rdf_term::OutOfMemory;
-use side_output::Cause;
 use thiserror::Error;
 use triple_store::{StoreFault, Telling, Told};
 use triple_texts::TripleTexts;

@@ -12,8 +12,8 @@ ghost use Rattle.world.specs.WorldState.{AreHolders, played_of, by_two_after, st
 use crate::applied::{Handling, HeldChange, Outcome, RoutedPage};
 use crate::holdings::Holdings;
 use entity_model::Event;
+use entity_state::{Entry, Side};
 use fetched_pages::{FetchedPage, Page, Reply, Wanted};
-use side_output::{Entry, Side};
 use triple_store::{StoreFault, Told};
 
 impl Holdings {

@@ -16,10 +16,9 @@ ghost use Rattle.world.specs.declared.restoring.RestoreFault.TheVariants.{Full, 
 use crate::holdings::Holdings;
 use crate::world::World;
 use entity_model::{EntityId, Event, MappingVersion};
-use entity_state::{Held, Mode, Record, Standing};
+use entity_state::{Entry, Held, Mode, Record, Side, Standing};
 use fetched_pages::{FetchedPage, Wanted, judge};
 use rdf_term::{OutOfMemory, Text};
-use side_output::{Entry, Side};
 use thiserror::Error;
 use triple_store::{StoreFault, Telling};
 

@@ -12,9 +12,8 @@ ghost use Rattle.world.specs.{Laid.IsLaid, Roomed.room_with};
 
 use crate::world::World;
 use entity_model::{EntityId, Event};
-use entity_state::State;
+use entity_state::{Entry, State, is_open};
 use rdf_term::{List, OutOfMemory};
-use side_output::{Entry, is_open};
 use text_region::Region;
 
 impl World {

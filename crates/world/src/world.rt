@@ -11,9 +11,9 @@ ghost use Rattle.rdf_term.specs.Limits.{default_max_terms};
 
 use crate::holdings::Holdings;
 use entity_model::{Event, MappingVersion};
+use entity_state::{Entry, Side};
 use rdf_term::{DEFAULT_MAX_TERMS, OutOfMemory};
 use reorder_buffer::{Buffer, Taken};
-use side_output::{Entry, Side};
 use std::alloc::Global;
 use std::hash::RandomState;
 use std::marker::Model;

@@ -1,6 +1,6 @@
 -- The items are taken one after the other, and then the end.
 use Rattle.std.proofs.Common.{◌∙◌, ◌+◌, inl, inr, refl, ap, sym, subst, arith}
-use Rattle.drill.specs.{Drill.drill, Source.Source}
+use Rattle.drill_replay.specs.{Drill.drill, Source.Source}
 use Rattle.drill_replay.specs.{Playing.HasBegun, Playing.IsPartOf, Playing.StandsAtEnd, Summary.drilled}
 use Rattle.drill_replay.proofs.Drills.{drilled_begun, part_in}
 use Rattle.session.specs.DrillPlaying.{told_of}

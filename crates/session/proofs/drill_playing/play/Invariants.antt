@@ -1,7 +1,7 @@
 -- The deliveries of the items so far were taken and counted, and nothing was printed.
 use Rattle.std.proofs.Common.{◌≡◌, ◌*◌, None}
 use Rattle.text_output.specs.Printing.{output}
-use Rattle.drill.specs.Drill.{drill}
+use Rattle.drill_replay.specs.Drill.{drill}
 use Rattle.drill_replay.specs.Playing.{HasFew}
 use Rattle.session.specs.DrillPlaying.{HasTakenFirst}
 use Rattle.session.proofs.drill_playing.play.Given as goal

@@ -2,7 +2,7 @@
 use Rattle.std.proofs.Common.{◌≡◌, ◌↔◌, ◌+◌, ◌<◌, ℕ, true, sym, subst, length, List, arith}
 use Rattle.sorted_sets.specs.Rising.{has}
 use Rattle.rdf_term.specs.{declared.triple.Triple.Triple, Order.triple_cmp}
-use Rattle.splitting.specs.Graphs.{routing_by}
+use Rattle.world.specs.Routed.{routing_by}
 use Rattle.splitting.proofs.Following.{route_within}
 use Rattle.subgraph.specs.Laws.{routed_union}
 use Rattle.fetched_pages.specs.Meaning.{meaning}

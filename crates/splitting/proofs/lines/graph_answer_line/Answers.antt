@@ -1,7 +1,7 @@
 -- The first line of an answer of a graph, from its parts.
 use Rattle.std.proofs.Common.{◌≡◌, ◌∙◌, sym, ℕ, List, ◌++◌, codes, append_assoc}
 use Rattle.std.specs.Fmt.{decimal}
-use Rattle.splitting.specs.Sections.{graph_answer_head}
+use Rattle.subgraph.specs.Sections.{graph_answer_head}
 use Rattle.splitting.proofs.lines.graph_answer_line.Goals as goal
 
 in_parts : (a b c d e f g : List ℕ) → a ++ (b ++ (c ++ (d ++ (e ++ (f ++ g))))) ≡ a ++ b ++ c ++ d ++ e ++ f ++ g

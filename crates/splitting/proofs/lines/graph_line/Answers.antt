@@ -1,7 +1,7 @@
 -- The first line of a graph, from its parts.
 use Rattle.std.proofs.Common.{◌≡◌, ◌∙◌, sym, ℕ, List, ◌++◌, codes, append_assoc}
 use Rattle.std.specs.Fmt.{decimal}
-use Rattle.splitting.specs.Sections.{graph_head}
+use Rattle.subgraph.specs.Sections.{graph_head}
 use Rattle.splitting.proofs.lines.graph_line.Goals as goal
 
 in_parts : (a b c d e : List ℕ) → a ++ (b ++ (c ++ (d ++ e))) ≡ a ++ b ++ c ++ d ++ e

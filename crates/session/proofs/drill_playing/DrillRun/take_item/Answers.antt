@@ -1,7 +1,7 @@
 -- The deliveries of the item are taken and counted, one after the other.
 use Rattle.std.proofs.Common.{refl, length, ◌≡◌, ◌∙◌, ◌≤◌, ◌+◌, ◌*◌, ◌++◌, [], ◌∷◌, suc, take, drop, sym, subst, append-nil, arith}
 use Rattle.text_output.specs.Printing.{output}
-use Rattle.drill.specs.Drill.{IsSize, item_deliveries, drill}
+use Rattle.drill_replay.specs.Drill.{IsSize, item_deliveries, drill}
 use Rattle.drill_replay.specs.Playing.{IsPartOf}
 use Rattle.drill_replay.proofs.{Drills.few_deliveries, Drills.part_in, Taking.cut, Taking.few_more, Taking.one_more, Taking.whole}
 use Rattle.session.specs.DrillPlaying.{HasTakenFirst}

@@ -3,7 +3,7 @@ use Rattle.std.proofs.Common.{◌≡◌, ◌+◌, ◌≤◌, suc, length, subst,
 use Rattle.std.proofs.lemmas.Result.{err_from_is_err_and}
 use Rattle.text_output.specs.Printing.{Prints, output}
 use Rattle.text_output.proofs.Parts.{prints_nothing}
-use Rattle.splitting.specs.Sections.{texts_below}
+use Rattle.subgraph.specs.Sections.{texts_below}
 use Rattle.splitting.proofs.Pieces.{below_cut_short, below_not_begun, below_printed}
 use Rattle.splitting.proofs.Printed.{section_in, sections_printed}
 use Rattle.splitting.proofs.graphs.Graphs.print.Goals as goal

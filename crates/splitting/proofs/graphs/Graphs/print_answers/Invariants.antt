@@ -1,7 +1,7 @@
 -- The answers of the graphs so far were printed.
 use Rattle.std.proofs.Common.{Ok}
 use Rattle.text_output.specs.Printing.{Prints, output}
-use Rattle.splitting.specs.Sections.{texts_below}
+use Rattle.subgraph.specs.Sections.{texts_below}
 use Rattle.splitting.proofs.Printed.{answer_in}
 use Rattle.splitting.proofs.graphs.Graphs.print_answers.Given as goal
 

@@ -1,4 +1,0 @@
-mod GivenBack
-mod Loadable
-mod LoadedRoom
-mod OneRefusal

@@ -1,4 +1,0 @@
-pub mod Fit
-pub mod Given
-pub mod Kept
-pub mod Labels

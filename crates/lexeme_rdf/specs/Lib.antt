@@ -1,4 +1,0 @@
-pub mod Dump
-pub mod Gives
-pub mod Keeps
-pub mod Statements

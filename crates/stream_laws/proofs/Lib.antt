@@ -1,5 +1,0 @@
-pub mod Bounds
-pub mod Chains
-pub mod Readable
-pub mod Sides
-pub mod Streamed

@@ -1,6 +1,0 @@
--- By the lemma.
-use Rattle.stream_laws.proofs.Bounds.{steps_few}
-use Rattle.stream_laws.proofs.laws.steps_of_a_play_are_few.Goals as goal
-
-pub returns : goal.returns
-returns c = steps_few
