@@ -7,7 +7,7 @@ pub mod NeverFull
 mod Counted
 pub mod Covered
 pub mod Meant
-mod Pages
+mod WrittenTrees
 mod Parts
 mod Printed
 mod Unwound

@@ -12,7 +12,7 @@ use Rattle.fetched_pages.specs.Meaning.{meaning, triples_if}
 use Rattle.drill_replay.specs.Drill.{earlier_page, item, later_page}
 use Rattle.drill_replay.specs.Trees.{earlier_tree, later_tree}
 use Rattle.drill_replay.proofs.{Counted.stated, Counted.unstated, Covered.Covered, Covered.at_most, Covered.left, Covered.none}
-use Rattle.drill_replay.proofs.Pages.{earlier_read, later_read}
+use Rattle.drill_replay.proofs.WrittenTrees.{earlier_read, later_read}
 use Rattle.drill_replay.proofs.Parts.{HasNone, IsLabelledPage, IsSourced, earlier_shape, later_shape}
 
 module _ (version : MappingVersion) (i rev n : ℕ) (S : List Statement → Type 0) (bytes : List ℕ) (t : Tree) (reads : Reads bytes t)

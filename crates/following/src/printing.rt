@@ -8,7 +8,7 @@ ghost use Rattle.following.specs.Following.{replica_line, replica_text};
 use rdf_term::OutOfMemory;
 use replica::Replica;
 use std::alloc::Global;
-use text_output::{Unwritten, print_triples, write_all};
+use text_output::{Unwritten, flush, print_triples, write_all};
 use wq_io::Sink;
 
 // Prints how many records were applied, and, where it is wanted, the section of the triples.
@@ -21,7 +21,9 @@ pub fn print_replica<K: Sink>(
     ensures { Prints (replica_text export replica.now.applied replica.now.triples) (output K.Sink out.old) (output K.Sink out.new) result }
 {
     let line = replica_line(alloc, replica.applied())?;
-    write_all(line.as_bytes(), out)?;
+    let text = line.as_bytes();
+    write_all(text, out)?;
+    flush(!text.is_empty(), out)?;
     print_export(alloc, replica, export, out)
 }
 

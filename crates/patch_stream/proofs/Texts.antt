@@ -1,5 +1,5 @@
 -- A text is printed line by line, and the record of a step.
-use Rattle.std.proofs.Common.{◌≡◌, ◌↔◌, refl, sym, ◌∙◌, ap, subst, ℕ, zero, suc, ◌+◌, Bool, true, false, not, ◌&&◌, ◌||◌, cond, nat_lt, List, [], ◌∷◌, ◌++◌, length, Ok, Err, append_assoc, arith, true≢false}
+use Rattle.std.proofs.Common.{◌≡◌, ◌↔◌, refl, sym, ◌∙◌, ap, subst, ℕ, zero, suc, ◌+◌, ◌<◌, Bool, true, false, not, ◌&&◌, ◌||◌, cond, nat_lt, List, [], ◌∷◌, ◌++◌, length, Ok, Err, append_assoc, arith, length-append, true≢false}
 use Rattle.std.proofs.lemmas.Bool.Decides.{Decides-ltb}
 use Rattle.wq_io.specs.Streams.{after_known}
 use Rattle.sorted_sets.specs.Rising.{IsRising, difference, has}
@@ -16,6 +16,12 @@ use Rattle.text_output.proofs.Parts.{IsWriting, after_nothing, cut_short_at_once
 use Rattle.patch_stream.specs.Stream.{Step, TellsStep, change_text, is_change, record_of_step, step}
 
 -- ---- lines
+
+-- a record has a byte
+pub some_record : (number : ℕ) (change : Change) → 0 < length (change_text number change)
+some_record number change =
+    let head : List ℕ = head_line (record { number = number; adds = change.came.count; removes = change.gone.count }) in
+    omega (arith, length-append (head ++ 10 ∷ []) (change.came.text.items ++ change.gone.text.items), length-append head (10 ∷ []))
 
 -- the next line was written
 pub writing_line : (whole line rest : List ℕ) (old between new : Output) → IsWriting whole (line ++ rest) old between → Prints line between new (Ok tt) → IsWriting whole rest old new

@@ -11,14 +11,14 @@ ghost use Rattle.patch_stream.specs.Stream.{TellsStep, change_text, step};
 use rdf_term::OutOfMemory;
 use replica::Head;
 use std::alloc::Global;
-use text_output::{Unwritten, write_all};
+use text_output::{Unwritten, flush, write_all};
 use triple_store::{Change, Told};
 use wq_io::Sink;
 
 /// Prints the record of a step whose change is told, if it changed what is stored: a line `# patch NUMBER +ADDS -REMOVES`, the lines of the
-/// triples that came, and those of the triples that are gone. Each line with its line feed is handed to the sink by itself. The arguments
-/// say how many records were written before; the answer says how many are written now. None is written for a step that left the store
-/// alone.
+/// triples that came, and those of the triples that are gone. Each line with its line feed is handed to the sink by itself, and the whole
+/// record on to the outside. The arguments say how many records were written before; the answer says how many are written now. None is
+/// written for a step that left the store alone.
 ///
 /// # Errors
 /// The output could not be written, or memory was refused: then a prefix of the record was written, and nothing else. If the next number
@@ -58,7 +58,7 @@ fn has_lines(change: &Change) -> bool
     change.came.count > 0 || change.gone.count > 0
 }
 
-// Prints the record with this number that tells the change.
+// Prints the record with this number that tells the change, and hands it on to the outside.
 fn print_change<K: Sink>(
     alloc: Global,
     number: u64,
@@ -74,7 +74,8 @@ fn print_change<K: Sink>(
     };
     print_head(alloc, &head, out)?;
     print_text(change.came.text.as_slice(), out)?;
-    print_text(change.gone.text.as_slice(), out)
+    print_text(change.gone.text.as_slice(), out)?;
+    flush(true, out)
 }
 
 // Prints the first line of a record.

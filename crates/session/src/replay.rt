@@ -10,7 +10,7 @@ use entity_model::Event;
 use rdf_term::OutOfMemory;
 use reorder_buffer::Taken;
 use snapshot::Counts;
-use splitting::Graphs;
+use splitting::{Graphs, discard};
 use std::marker::Model;
 use world::World;
 
@@ -106,7 +106,7 @@ impl Replay {
             graphs,
             earlier: _,
         } = self;
-        drop(graphs);
+        discard(graphs);
         let _ = world.terms();
         world
     }

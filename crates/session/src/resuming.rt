@@ -21,7 +21,7 @@ use rdf_term::OutOfMemory;
 use run_model::Stop;
 use splitting::Graphs;
 use std::hash::RandomState;
-use world::World;
+use world::{World, discard};
 use world_snapshots::{Loaded, load};
 use wq_io::Source;
 
@@ -95,7 +95,7 @@ pub fn start<S: Source>(
         None => begin_anew(keys, task, routes, world),
         Some(_) => match load_start(keys, task, routes, resumed) {
             Ok(replay) => {
-                drop(world);
+                discard(world);
                 Ok(replay)
             }
             Err(fault) => Err((Stop::from(fault), world)),
@@ -163,7 +163,7 @@ fn load_start<S: Source>(
                 })
             }
             Err(fault) => {
-                drop(loaded);
+                discard(loaded.world);
                 Err(fault)
             }
         },

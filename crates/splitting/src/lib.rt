@@ -12,4 +12,4 @@ mod optional_graphs;
 mod printing;
 
 pub use graphs::Graphs;
-pub use optional_graphs::{follow_application, follow_remapping, routes_of};
+pub use optional_graphs::{discard, follow_application, follow_remapping, routes_of};

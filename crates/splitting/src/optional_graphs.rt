@@ -26,6 +26,12 @@ pub fn routes_of(graphs: &Option<Graphs>) -> Option<&Routes>
     }
 }
 
+/// Gives back the memory of graphs, if there are any. So the drop of all that they may hold is proved here, and not in each crate that has
+/// some.
+pub fn discard(graphs: Option<Graphs>) {
+    drop(graphs);
+}
+
 /// Graphs, if there are some, follow the application of an event. They have room for the page that it stored.
 ///
 /// # Errors

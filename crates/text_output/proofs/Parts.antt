@@ -1,5 +1,5 @@
 -- What is written in parts is written as a whole.
-use Rattle.std.proofs.Common.{refl, sym, ◌∙◌, ap, ◌≡◌, ℕ, ◌+◌, ◌-◌, ◌<◌, List, [], ◌∷◌, ◌++◌, length, take, drop, get_or, flat_map, Option, None, Some, ⊎_elim, ◌≤◌, Result, Ok, Err, append_assoc, append-nil, add-one, arith, length-append}
+use Rattle.std.proofs.Common.{refl, sym, ◌∙◌, ap, ◌≡◌, ℕ, ◌+◌, ◌-◌, ◌<◌, List, [], ◌∷◌, ◌++◌, length, take, drop, get_or, flat_map, Option, None, Some, ⊎_elim, Bool, true, false, not, ◌||◌, ◌==◌, ◌≤◌, Result, Ok, Err, append_assoc, append-nil, add-one, arith, length-append}
 use Rattle.std.proofs.{Math.Seq.take-length, Math.Seq.take-suc, lemmas.List.Concat.flat_map-append}
 use Rattle.std.proofs.lemmas.Option.{get_or_from_slice_get, slice_get_cases}
 use Rattle.std.proofs.lemmas.List.{length-drop, take-append-drop}
@@ -105,6 +105,21 @@ writing_failed why whole rest old between new x more same later most cause = rec
   most = most ∙ x.prints.most;
   outcome = record { written = x.written; unwritten = rest; is = x.is; bytes = same ∙ x.prints.outcome; failed = λ fault. (more, omega (arith, x.prints.later, cause fault)) };
 }
+
+-- a text that isn't empty, and another behind it
+pub some_before : (empty : Bool) (front back : List ℕ) → empty ≡ (length front == 0) → not empty ≡ true → 0 < length (front ++ back)
+some_before empty [] back is there =
+    let never : not true ≡ true = ap not (sym is) ∙ there in
+    cc
+some_before empty (x ∷ xs) back is there = omega (arith, length-append (x ∷ xs) back)
+
+-- the texts so far and one more, where it is known whether any was there before and whether this is empty
+pub some_more : (was empty : Bool) (before text : List ℕ) → (was ≡ true → 0 < length before) → empty ≡ (length text == 0) → (was || not empty) ≡ true → 0 < length (before ++ text)
+some_more true empty before text some is there = omega (arith, some refl, length-append before text)
+some_more false empty before [] some is there =
+    let never : not true ≡ true = ap not (sym is) ∙ there in
+    cc
+some_more false empty before (x ∷ xs) some is there = omega (arith, length-append before (x ∷ xs))
 
 -- the texts of the elements of a list, one after the other
 module _ {X : Type 0} (f : X → List ℕ) (xs : List X) (index : ℕ) where

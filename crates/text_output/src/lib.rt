@@ -8,4 +8,4 @@ mod triples;
 mod write;
 
 pub use triples::{print_section, print_triples};
-pub use write::{Unwritten, print_lines, write_all};
+pub use write::{Unwritten, flush, print_lines, write_all};

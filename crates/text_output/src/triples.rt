@@ -5,13 +5,13 @@ ghost use Rattle.rdf_term.specs.Text.{triple_text};
 ghost use Rattle.replay_model.specs.Transcript.{export_head, export_section};
 ghost use Rattle.text_output.specs.Printing.{Prints, output};
 
-use crate::write::{Unwritten, write_all};
+use crate::write::{Unwritten, flush, write_all};
 use rdf_term::OutOfMemory;
 use std::alloc::Global;
 use triple_store::Rows;
 use wq_io::Sink;
 
-/// Prints a section: its head, and the line of each triple.
+/// Prints a section, its head and the line of each triple, and hands it on to the outside.
 ///
 /// # Errors
 /// The output could not be written, or memory was refused: then a prefix of the section was written, and nothing else.
@@ -24,7 +24,8 @@ pub fn print_section<K: Sink>(
     ensures { Prints (head.now ++ flat_map triple_text rows.now) (output K.Sink out.old) (output K.Sink out.new) result }
 {
     write_all(head.as_bytes(), out)?;
-    print_rows(alloc, rows, out)
+    print_rows(alloc, rows, out)?;
+    flush(!head.is_empty(), out)
 }
 
 // Prints the line of each triple, each from the same buffer.

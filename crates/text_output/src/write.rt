@@ -1,7 +1,7 @@
 // Bytes, and lines that are made already, are written whole.
 
-ghost use Rattle.std.specs.Prelude.{◌≡◌, flat_map, string_bytes};
-ghost use Rattle.text_output.specs.{Printing.Prints, Printing.output, declared.write.Unwritten.TheVariants.OutOfMemory as UnwrittenOutOfMemory};
+ghost use Rattle.std.specs.Prelude.{◌≡◌, ℕ, ◌<◌, List, Ok, flat_map, length, string_bytes, true};
+ghost use Rattle.text_output.specs.{Printing.Output, Printing.Prints, Printing.output, declared.write.Unwritten.TheVariants.OutOfMemory as UnwrittenOutOfMemory};
 
 use base::OutOfMemory;
 use wq_io::{NoWrite, Sink};
@@ -41,15 +41,35 @@ pub fn write_all<K: Sink>(bytes: &[u8], out: &mut K) -> Result<(), Unwritten>
     Ok(())
 }
 
-/// Prints lines as they are, one by one.
+/// Hands what was printed on to the outside, if anything was.
+///
+/// # Errors
+/// The output could not be written, or memory was refused: then a prefix of what was printed reached the outside, and nothing else.
+pub fn flush<K: Sink>(is_printed: bool, out: &mut K) -> Result<(), Unwritten>
+    ensures { (whole : List ℕ) → (before : Output) → (is_printed ≡ true → 0 < length whole) → Prints whole before (output K.Sink out.old) (Ok tt) → Prints whole before (output K.Sink out.new) result }
+{
+    if !is_printed {
+        return Ok(());
+    }
+    match out.flush() {
+        Ok(()) => Ok(()),
+        Err(NoWrite::Failed) => Err(Unwritten::WriteFault),
+        Err(NoWrite::OutOfMemory) => Err(Unwritten::OutOfMemory),
+    }
+}
+
+/// Prints lines as they are, one by one, and hands them on to the outside.
 ///
 /// # Errors
 /// The output could not be written, or memory was refused: then a prefix of the lines was written, and nothing else.
 pub fn print_lines<K: Sink>(lines: &[String], out: &mut K) -> Result<(), Unwritten>
     ensures { Prints (flat_map string_bytes lines.now) (output K.Sink out.old) (output K.Sink out.new) result }
 {
+    let mut is_printed = false;
     for line in lines {
-        write_all(line.as_bytes(), out)?;
+        let line = line.as_bytes();
+        write_all(line, out)?;
+        is_printed |= !line.is_empty();
     }
-    Ok(())
+    flush(is_printed, out)
 }

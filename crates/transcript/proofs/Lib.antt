@@ -1,2 +1,3 @@
 mod ByIds
 mod BindingLines
+mod EntryLines

@@ -8,11 +8,11 @@ ghost use Rattle.transcript.specs.Sections.{entry_text};
 
 use crate::lines::entry_line;
 use std::alloc::Global;
-use text_output::{Unwritten, write_all};
+use text_output::{Unwritten, flush, write_all};
 use world::World;
 use wq_io::Sink;
 
-// Prints the line of each entry.
+// Prints the line of each entry, and hands them on to the outside.
 pub(crate) fn print_entries<K: Sink>(
     alloc: Global,
     world: &World,
@@ -23,7 +23,7 @@ pub(crate) fn print_entries<K: Sink>(
     for index in 0..world.side_len() {
         print_entry(alloc, world, index, out)?;
     }
-    Ok(())
+    flush(world.side_len() > 0, out)
 }
 
 // Prints the line of the entry with this index.

@@ -7,7 +7,7 @@ ghost use Rattle.text_output.specs.Printing.{Prints, output};
 use crate::lines::state_line;
 use entity_model::EntityId;
 use std::alloc::Global;
-use text_output::{Unwritten, write_all};
+use text_output::{Unwritten, flush, write_all};
 use world::World;
 use wq_io::Sink;
 
@@ -23,7 +23,7 @@ pub(crate) fn print_states<K: Sink>(
     print_states_of(alloc, world, ids.as_slice(), out)
 }
 
-// Prints the line of the state of each of these entities.
+// Prints the line of the state of each of these entities, and hands them on to the outside.
 fn print_states_of<K: Sink>(
     alloc: Global,
     world: &World,
@@ -33,9 +33,12 @@ fn print_states_of<K: Sink>(
     ensures { Prints (flat_map (λ x. state_line x (record_of world.now.replay.played.records x).state) ids.now)
         (output K.Sink out.old) (output K.Sink out.new) result }
 {
+    let mut is_printed = false;
     for id in ids {
         let line = state_line(alloc, *id, world.state(*id))?;
-        write_all(line.as_bytes(), out)?;
+        let line = line.as_bytes();
+        write_all(line, out)?;
+        is_printed |= !line.is_empty();
     }
-    Ok(())
+    flush(is_printed, out)
 }

@@ -47,9 +47,15 @@ fn check_sinks() -> Result<()> {
     let mut sink = StdSink::new(&mut written[..]);
     check(sink.write(b"abcd"), Ok(3), "four bytes")?;
     check(sink.write(b"d"), Err(NoWrite::Failed), "the last byte")?;
+    check(sink.flush(), Ok(()), "nothing is kept back")?;
     check(written.as_slice(), b"abc".as_slice(), "three bytes")?;
-    let failed = StdSink::new(Unflushed).write(b"abc");
-    check(failed, Err(NoWrite::Failed), "a writer that can't flush")
+    let mut unflushed = StdSink::new(Unflushed);
+    check(unflushed.write(b"abc"), Ok(3), "a writer that can't flush")?;
+    check(
+        unflushed.flush(),
+        Err(NoWrite::Failed),
+        "a writer that can't flush",
+    )
 }
 
 pub(crate) fn streams() -> Result<()> {

@@ -71,12 +71,18 @@ fn write_lines<F: Snapshots>(
     ensures { Writes (file_text (saved_of world.now counts)) (archive F.Snapshots out.old) (archive F.Snapshots out.new) result }
 {
     let events = world.remembered()?;
-    let entities = world.entities()?;
+    let Ok(entities) = world.entities() else {
+        drop(events);
+        return Err(Unwritten::OutOfMemory);
+    };
     let lists = SavedLists {
         events: events.as_slice(),
         entities: entities.as_slice(),
     };
-    write_parts(alloc, world, counts, lists, out)
+    let written = write_parts(alloc, world, counts, lists, out);
+    drop(entities);
+    drop(events);
+    written
 }
 
 // Writes the head with the counts, the events that are remembered, the side output, the records with the pages that are held, and the number

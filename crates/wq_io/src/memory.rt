@@ -219,5 +219,12 @@ impl Sink for MemorySink {
         }
     }
 
+    fn flush(&mut self) -> Result<(), NoWrite>
+        ensures done { result ≡ Ok tt }
+        ensures same { self.new ≡ self.old }
+    {
+        Ok(())
+    }
+
     ghost within_most = { λ s. count_by-le-length (λ k. nat_le k s.calls.calls) s.calls.numbers };
 }

@@ -50,7 +50,7 @@ impl<R: Read> Source for StdSource<R> {
     ghost within_most = { λ _. tt };
 }
 
-/// A sink over any writer, as standard output. It flushes after each write.
+/// A sink over any writer, as standard output: the writer may keep bytes back until a `flush`.
 #[derive(Drop)]
 pub struct StdSink<W: Write> {
     writer: W,
@@ -89,11 +89,18 @@ impl<W: Write> Sink for StdSink<W> {
         ensures failed { IfErr result (λ e. (e ≡ NoWrite.Failed) × (self.new.faults ≡ counted self.old.faults)) }
     {
         match self.writer.write(bytes) {
-            Ok(count) if count > 0 => match self.writer.flush() {
-                Ok(()) => Ok(count),
-                Err(_) => Err(self.fail()),
-            },
+            Ok(count) if count > 0 => Ok(count),
             _ => Err(self.fail()),
+        }
+    }
+
+    fn flush(&mut self) -> Result<(), NoWrite>
+        ensures quiet { OnOk result (self.new.faults ≡ self.old.faults) }
+        ensures failed { IfErr result (λ e. (e ≡ NoWrite.Failed) × (self.new.faults ≡ counted self.old.faults)) }
+    {
+        match self.writer.flush() {
+            Ok(()) => Ok(()),
+            Err(_) => Err(self.fail()),
         }
     }
 

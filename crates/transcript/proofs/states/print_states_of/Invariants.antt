@@ -1,5 +1,5 @@
--- The lines of the states so far were written.
-use Rattle.std.proofs.Common.{take, Ok}
+-- The lines of the states so far were written, and whether any byte was.
+use Rattle.std.proofs.Common.{◌≡◌, ◌<◌, length, take, true, Ok}
 use Rattle.std.specs.List.{flat_map}
 use Rattle.replay_model.specs.{Records.record_of, Transcript.state_line}
 use Rattle.text_output.specs.Printing.{Prints, output}
@@ -8,3 +8,4 @@ use Rattle.transcript.proofs.states.print_states_of.Given as goal
 abbrev pub invariant-loop-id : goal.invariant-loop-id
 invariant-loop-id g l =
     Prints (flat_map (λ x. state_line x (record_of l.world.replay.played.records x).state) (take l.id-index l.ids)) (output g.K.Sink l.fn.out) (output g.K.Sink l.out) (Ok tt)
+    × (l.is_printed ≡ true → 0 < length (flat_map (λ x. state_line x (record_of l.world.replay.played.records x).state) (take l.id-index l.ids)))

@@ -9,7 +9,5 @@ returns-in_err-events g c =
     let p = err_from_is_err_and c.from_residual.result c.from_residual.ensures.1 in
     rw (p.1, p.2) (fails_at_once _ (archive g.F.Snapshots c.args.out.now))
 
-pub returns-in_err-entities : goal.returns-in_err-entities
-returns-in_err-entities g c =
-    let p = err_from_is_err_and c.from_residual-in_err-entities.result c.from_residual-in_err-entities.ensures.1 in
-    rw (p.1, p.2) (fails_at_once _ (archive g.F.Snapshots c.args.out.now))
+pub returns-in_default : goal.returns-in_default
+returns-in_default g c = fails_at_once _ (archive g.F.Snapshots c.args.out.now)

@@ -85,6 +85,9 @@ returns-in-Ok-exchange_page-clause-by_two c = rw (← c.self.view_is)
     (ap (λ (ids : ByVersion). ids.by_two) (moves c.self.inside.holders c.add.new.self c.remove.new.self c.args.wanted.id c.args.wanted.version c.other.result c.in-Ok.ensures.ok c.other.ensures c.remove.ensures)
     ∙ moved_by_two c.self.inside.holders c.args.wanted.id c.args.wanted.version)
 
+pub returns-in-Ok-exchange_page-clause-limit : goal.returns-in-Ok-exchange_page-clause-limit
+returns-in-Ok-exchange_page-clause-limit c = rw (← c.self.view_is) (c.replace.ensures.limit ∙ c.exchange_page.ensures.rest.limit ∙ c.place.ensures.limit)
+
 pub returns-in-Ok-exchange_page-clause-within : goal.returns-in-Ok-exchange_page-clause-within
 returns-in-Ok-exchange_page-clause-within c = rw (← c.self.view_is, ← c.make_room.ensures.records)
     (subst (λ n. n ≤ limit_of c.self.inside.store) (room_is (meaning_by meaning c.self.inside.holders.by_two) c.self.inside.store c.make_room.new.table.records (rw c.make_room.ensures.records c.self.invariant.kept) _ c.place.ensures.counts (meaning c.args.wanted.version c.args.wanted.id c.args.wanted.rev (bytes_of c.args.page.now)) _ (λ t. refl)) (subst (λ l. room_for (counts_in c.place.new.self) (meaning c.args.wanted.version c.args.wanted.id c.args.wanted.rev (bytes_of c.args.page.now)) ≤ l) c.place.ensures.limit (swapped c).within))
@@ -93,6 +96,9 @@ pub returns-in-Ok-exchange_page-clause-change : goal.returns-in-Ok-exchange_page
 returns-in-Ok-exchange_page-clause-change c = rw (← c.self.view_is)
     (step_tells c.self.inside.store c.replace.new.store c.self.inside.holders c.remove.new.self c.self.inside.table.records c.replace.new.table.records c.self.invariant (after c)
     (counts_in c.place.new.self) (counts_in c.exchange_page.new.store) c.place.ensures.counts (sym c.replace.ensures.counts) c.args.telling c.in-Ok-exchange_page.field-0.change (swapped c).told)
+
+pub returns-in-Err-clause-limit : goal.returns-in-Err-clause-limit
+returns-in-Err-clause-limit c = rw (← c.self.view_is) (c.free.ensures.limit ∙ c.exchange_page.ensures.rest.limit ∙ c.place.ensures.limit)
 
 pub returns-in-Err-clause-err : goal.returns-in-Err-clause-err
 returns-in-Err-clause-err c = rw (← c.self.view_is) (λ i. record {

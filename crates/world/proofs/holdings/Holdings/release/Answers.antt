@@ -32,6 +32,9 @@ returns-clause-records c = rw (← c.self.view_is, ← c.make_room.ensures.recor
     ∙ gone_seen c.self.inside.store c.self.inside.holders c.make_room.new.table.records c.args.id (rw c.make_room.ensures.records c.self.invariant) c.release.new.self c.replace.new.store
     c.args.after.state c.args.after.reconciled c.release.ensures.rest.beside c.replace.ensures.freed)
 
+pub returns-clause-limit : goal.returns-clause-limit
+returns-clause-limit c = rw (← c.self.view_is) (c.replace.ensures.limit ∙ c.release.ensures.rest.limit)
+
 pub returns-clause-change : goal.returns-clause-change
 returns-clause-change c = rw (← c.self.view_is)
     (step_tells c.self.inside.store c.replace.new.store c.self.inside.holders c.remove-2.new.self c.self.inside.table.records c.replace.new.table.records c.self.invariant (after c)

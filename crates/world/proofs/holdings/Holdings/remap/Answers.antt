@@ -70,6 +70,9 @@ returns-in-Ok-exchange-clause-by_two c = rw (← c.self.view_is)
     (ap (λ (ids : ByVersion). ids.by_two) (moves c.self.inside.holders c.add.new.self c.remove.new.self c.args.id c.args.version c.other.result c.in-Ok-add.ensures.ok c.other.ensures c.remove.ensures)
     ∙ moved_by_two c.self.inside.holders c.args.id c.args.version)
 
+pub returns-in-Ok-exchange-clause-limit : goal.returns-in-Ok-exchange-clause-limit
+returns-in-Ok-exchange-clause-limit c = rw (← c.self.view_is) c.exchange.ensures.rest.limit
+
 pub returns-in-Ok-exchange-clause-within : goal.returns-in-Ok-exchange-clause-within
 returns-in-Ok-exchange-clause-within c = rw (← c.self.view_is)
     (subst (λ n. n ≤ limit_of c.self.inside.store) (room_is (meaning_by meaning c.self.inside.holders.by_two) c.self.inside.store c.self.inside.table.records c.self.invariant.kept _ refl c.in-Ok.triples _
@@ -80,6 +83,9 @@ pub returns-in-Ok-exchange-clause-change : goal.returns-in-Ok-exchange-clause-ch
 returns-in-Ok-exchange-clause-change c = rw (← c.self.view_is)
     (step_tells c.self.inside.store c.exchange.new.self c.self.inside.holders c.remove.new.self c.self.inside.table.records c.set_keys.new.table.records c.self.invariant (after c)
     (counts_in c.self.inside.store) (counts_in c.exchange.new.self) refl refl c.args.telling c.in-Ok-exchange.field-0.change (came c).told)
+
+pub returns-in-Err-clause-limit : goal.returns-in-Err-clause-limit
+returns-in-Err-clause-limit c = rw (← c.self.view_is) c.exchange.ensures.rest.limit
 
 pub returns-in-Err-clause-err : goal.returns-in-Err-clause-err
 returns-in-Err-clause-err c = rw (← c.self.view_is) (λ i. record {

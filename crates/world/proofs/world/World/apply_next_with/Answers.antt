@@ -22,6 +22,9 @@ invariant_of-self g c =
           (documents-apply unfit_of c.in-Some.event (reply_or_any c.in-Ok.reply) (reply_gives _ _ c.in-Some.event.entity _ (reply_or_any c.in-Ok.reply) c.in-Ok.ensures.reply) was c.self.invariant.3),
     )
 
+pub returns-in-Ok-apply-clause-limit : goal.returns-in-Ok-apply-clause-limit
+returns-in-Ok-apply-clause-limit g c = rw (← c.self.view_is) c.apply.ensures.limit
+
 pub returns-in-Ok-apply-clause-within : goal.returns-in-Ok-apply-clause-within
 returns-in-Ok-apply-clause-within g c = rw (← c.self.view_is) (λ stored.
     subst (λ (ts : List Triple). room_with (meaning_by meaning c.self.inside.holdings.by_two) c.self.inside.holdings.records ts ≤ c.self.inside.holdings.limit)
@@ -52,6 +55,23 @@ returns-in-Ok-apply-clause-applied g c = rw (← c.self.view_is) (record {
   is_reply = rw (← c.self.view_is) at c.in-Ok.ensures.reply;
   new_is = λ i. record { buffer = c.drop_least.ensures i; played = c.in-Ok-apply.ensures.applied i };
   outcome = c.in-Ok-apply.ensures.outcome;
+})
+
+pub returns-in-Err-clause-limit : goal.returns-in-Err-clause-limit
+returns-in-Err-clause-limit g c = rw (← c.self.view_is) c.apply.ensures.limit
+
+pub returns-in-Err-clause-held : goal.returns-in-Err-clause-held
+returns-in-Err-clause-held g c = rw c.in-Err.ensures.err c.self.invariant.1
+
+pub returns-in-Err-clause-holders : goal.returns-in-Err-clause-holders
+returns-in-Err-clause-holders g c = rw c.in-Err.ensures.err c.self.invariant.2
+
+pub returns-in-Err-clause-err : goal.returns-in-Err-clause-err
+returns-in-Err-clause-err g c = rw (← c.self.view_is) (λ i. record {
+  replay = record { buffer = c.self.inside.buffer; played = played_of (c.in-Err.ensures.err i) (c.in-Err.ensures.err_entries i) };
+  limit = (c.in-Err.ensures.err i).limit;
+  mapping = c.self.inside.mapping;
+  by_two = (c.in-Err.ensures.err i).by_two;
 })
 
 pub returns-in-Err-clause-full : goal.returns-in-Err-clause-full

@@ -5,7 +5,7 @@ use Rattle.json_spell.specs.View.{json_view}
 use Rattle.entity_json.specs.Document.{page_limit, unfit_by}
 use Rattle.entity_json.proofs.Outcomes.{outcome-large}
 use Rattle.entity_documents.proofs.AnswerLemmas.{text-refused, page-refused, page-told, small-told, owned-told}
-use Rattle.entity_documents.proofs.document.document.Goals as goal
+use Rattle.entity_documents.proofs.reading.document.Goals as goal
 
 pub returns-then-bytes-gt-PAGE_LIMIT-clause-answer : goal.returns-then-bytes-gt-PAGE_LIMIT-clause-answer
 returns-then-bytes-gt-PAGE_LIMIT-clause-answer c = ap unfit_by (outcome-large c.args.id c.args.bytes.now (omega arith))
