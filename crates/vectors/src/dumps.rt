@@ -2,35 +2,22 @@
 
 ghost use Rattle.entity_model.specs.Document.{IsDocumentOf};
 
-use crate::checks::{check, check_lines, halves};
-use crate::stores::triple_from;
-use anyhow::{Context, Result, bail};
+use crate::sets::{write_lines, write_set};
+use crate::tester::{Subject, Tester, write_text};
 use entity_documents::document;
 use entity_json::discard;
 use entity_model::{Document, EntityId, MappingVersion};
 use entity_rdf::{direct_texts, direct_triples, dump_triples};
 use munger::munge;
-use rdf_term::{List, Term, Triple, TripleSet};
+use rdf_term::TripleSet;
 use std::alloc::Global;
-use std::str;
-use term_reading::read_term;
 use triple_sink::Setting;
-use triple_texts::{TripleText, TripleTexts};
+use triple_texts::TripleTexts;
 
-// Checks the lines of the dump of an entity at revision 5.
-fn check_dump(alloc: Global, id: EntityId, document: Document, want: &str) -> Result<()>
-    requires { IsDocumentOf id document }
-{
-    let setting = Setting {
-        alloc,
-        version: MappingVersion::One,
-    };
-    let dump = dump_triples(setting, id, 5, &document);
-    discard(document);
-    check_lines(alloc, dump?, want)
-}
+// A page with one label.
+const PAGE: &str = r#"{"type":"item","id":"Q1","labels":{"en":{"language":"en","value":"a"}}}"#;
 
-// All that the page of Q1 says where it has one label.
+// All that it says.
 const ITEM: &str = "\
 <http://www.wikidata.org/entity/Q1> <http://schema.org/name> \"a\"@en .
 <http://www.wikidata.org/entity/Q1> <http://www.w3.org/1999/02/22-rdf-syntax-ns#type> <http://wikiba.se/ontology#Item> .
@@ -46,13 +33,19 @@ const ITEM: &str = "\
 <https://www.wikidata.org/wiki/Special:EntityData/Q1> <http://www.w3.org/1999/02/22-rdf-syntax-ns#type> <http://schema.org/Dataset> .
 ";
 
-pub(crate) fn dump_of_an_item(alloc: Global) -> Result<()> {
-    let id = EntityId::read("Q1").context("an id")?;
-    let page = r#"{"type":"item","id":"Q1","labels":{"en":{"language":"en","value":"a"}}}"#;
-    match document(alloc, id, page.as_bytes()) {
-        Ok(document) => check_dump(alloc, id, document, ITEM),
-        Err(_) => bail!("a document"),
-    }
+// Writes the dump of the page at revision 5.
+fn write_dump(alloc: Global, found: &mut Vec<u8>) -> Option<()> {
+    let id = EntityId::read("Q1")?;
+    let Ok(document) = document(alloc, id, PAGE.as_bytes()) else {
+        return None;
+    };
+    let setting = Setting {
+        alloc,
+        version: MappingVersion::One,
+    };
+    let dump = dump_triples(setting, id, 5, &document);
+    discard(document);
+    write_set(dump.ok()?, found)
 }
 
 // Pages, each behind the id of its entity: redirects, one of two equal keys, labels with a description and an alias, a modified page,
@@ -71,38 +64,6 @@ P31 {"type":"property","id":"P31","datatype":"wikibase-item"}
 P1 {"type":"property","id":"P1","datatype":"","labels":{"en":{"language":"en","value":"a"}},"claims":{"P2":[{"id":"P1$a","rank":"normal","mainsnak":{"snaktype":"value","property":"P2","datatype":"external-id","datavalue":{"type":"string","value":"x"}}}]}}
 L1 {"type":"lexeme","id":"L1","lemmas":{"en":{"language":"en","value":"run"}},"lexicalCategory":"Q24905","language":"Q1860","claims":{},"forms":[{"id":"L1-F1","representations":{"en":{"language":"en","value":"ran"}},"grammaticalFeatures":["Q1"],"claims":{}}],"senses":[{"id":"L1-S1","glosses":{"en":{"language":"en","value":"move fast"}},"claims":{}}]}"#;
 
-// The term of a canonical text; None where memory is refused.
-fn term_of(alloc: Global, text: &[u8]) -> Option<Term> {
-    let text = str::from_utf8(text).ok()?;
-    read_term(alloc, text).ok()?
-}
-
-// The triple of the texts of its terms.
-fn triple_of(alloc: Global, texts: TripleText<'_>) -> Option<Triple> {
-    let subject = term_of(alloc, texts.subject);
-    let predicate = term_of(alloc, texts.predicate);
-    let object = term_of(alloc, texts.object);
-    triple_from(subject, predicate, object)
-}
-
-// Puts the triples of their texts into the list.
-fn push_triples(alloc: Global, texts: &TripleTexts, list: &mut List<Triple>) -> Option<()> {
-    for index in 0..texts.len() {
-        list.push(triple_of(alloc, texts.get(index))?).ok()?;
-    }
-    Some(())
-}
-
-// The set of the triples of their texts.
-fn set_of(alloc: Global, texts: &TripleTexts) -> Option<TripleSet> {
-    let mut triples = List::new(alloc);
-    if push_triples(alloc, texts, &mut triples).is_none() {
-        drop(triples);
-        return None;
-    }
-    TripleSet::from_list(triples).ok()
-}
-
 // What munging leaves of the dump.
 fn munged(setting: Setting, id: EntityId, document: &Document) -> Option<TripleSet>
     requires { IsDocumentOf id document.now }
@@ -113,56 +74,113 @@ fn munged(setting: Setting, id: EntityId, document: &Document) -> Option<TripleS
     kept.ok()
 }
 
-// The set of what is made as texts without the dump.
-fn set_of_direct_texts(setting: Setting, id: EntityId, document: &Document) -> Option<TripleSet>
-    requires { IsDocumentOf id document.now }
-{
-    let texts = direct_texts(setting, id, 5, document).ok()?;
-    let read = set_of(setting.alloc, &texts);
-    drop(texts);
-    read
-}
-
-// Whether there are two sets, and they are equal.
-fn are_equal(one: &TripleSet, other: Option<TripleSet>) -> Option<bool> {
-    let other = other?;
+// Whether two sets are equal; not where the second lacked memory.
+fn are_equal(one: &TripleSet, other: Option<TripleSet>) -> bool {
+    let Some(other) = other else {
+        return false;
+    };
     let equal = one.items() == other.items();
     drop(other);
-    Some(equal)
+    equal
 }
 
-// Whether what munging leaves of the dump is what is made without the dump, as a set and by its texts; None where memory is refused.
-fn is_made_directly(setting: Setting, id: EntityId, document: &Document) -> Option<bool>
+// Whether a set has the same lines as the texts, among which a triple may stand more than once.
+fn has_lines_of(alloc: Global, set: &TripleSet, texts: Option<TripleTexts>) -> bool {
+    let Some(texts) = texts else {
+        return false;
+    };
+    let mut lines = Vec::new(alloc);
+    let mut others = Vec::new(alloc);
+    let written = write_lines(set, &mut lines).is_ok()
+        && write_texts(&texts, &mut others).is_some();
+    drop(texts);
+    let lines = lines.as_slice();
+    let others = others.as_slice();
+    written && has_each_line(lines, others) && has_each_line(others, lines)
+}
+
+// Writes triples by their texts, as lines.
+fn write_texts(texts: &TripleTexts, found: &mut Vec<u8>) -> Option<()> {
+    for index in 0..texts.len() {
+        let triple = texts.get(index);
+        for text in [triple.subject, triple.predicate, triple.object] {
+            found.extend_from_slice(text).ok()?;
+            found.push(b' ').ok()?;
+        }
+        write_text(".\n", found)?;
+    }
+    Some(())
+}
+
+// Whether a text has each line of another one.
+fn has_each_line(text: &[u8], lines: &[u8]) -> bool {
+    for line in lines.split(is_feed) {
+        if !has_line(text, line) {
+            return false;
+        }
+    }
+    true
+}
+
+// Whether a text has a line.
+fn has_line(text: &[u8], wanted: &[u8]) -> bool {
+    for line in text.split(is_feed) {
+        if line == wanted {
+            return true;
+        }
+    }
+    false
+}
+
+// Whether a byte ends a line.
+fn is_feed(byte: &u8) -> bool {
+    *byte == b'\n'
+}
+
+// Whether what munging leaves of the dump is some triples, and what is made without the dump, as a set and by its texts.
+fn is_made_directly(setting: Setting, id: EntityId, document: &Document) -> bool
     requires { IsDocumentOf id document.now }
 {
-    let kept = munged(setting, id, document)?;
+    let Some(kept) = munged(setting, id, document) else {
+        return false;
+    };
     let as_set = are_equal(&kept, direct_triples(setting, id, 5, document).ok());
-    let as_texts = are_equal(&kept, set_of_direct_texts(setting, id, document));
+    let texts = direct_texts(setting, id, 5, document).ok();
+    let as_texts = has_lines_of(setting.alloc, &kept, texts);
     let some = !kept.items().is_empty();
     drop(kept);
-    Some(as_texts? && as_set? && some)
+    as_set && as_texts && some
 }
 
-// The same for the page of an entity under a version of the mapping; None also where the page isn't one.
-fn is_page_made_directly(setting: Setting, id: &str, page: &str) -> Option<bool> {
-    let id = EntityId::read(id)?;
-    match document(setting.alloc, id, page.as_bytes()) {
-        Ok(document) => {
-            let made = is_made_directly(setting, id, &document);
-            discard(document);
-            made
-        }
-        Err(_) => None,
-    }
+// The same for the page of an entity under a version of the mapping; not where the page isn't one.
+fn is_page_made_directly(setting: Setting, id: EntityId, page: &str) -> bool {
+    let Ok(document) = document(setting.alloc, id, page.as_bytes()) else {
+        return false;
+    };
+    let made = is_made_directly(setting, id, &document);
+    discard(document);
+    made
 }
 
-pub(crate) fn what_is_kept_is_made_without_the_dump(alloc: Global) -> Result<()> {
-    for line in PAGES.lines() {
-        let (id, page) = halves(line, " ")?;
+#[derive(Drop)]
+struct Pages;
+
+impl Subject for Pages {
+    // Writes again a page that is made directly under both versions.
+    fn answer(&mut self, alloc: Global, given: &str, found: &mut Vec<u8>) -> Option<()> {
+        let (id, page) = given.split_once(' ')?;
+        let id = EntityId::read(id)?;
         for version in [MappingVersion::One, MappingVersion::Two] {
-            let setting = Setting { alloc, version };
-            check(is_page_made_directly(setting, id, page), Some(true), line)?;
+            if !is_page_made_directly(Setting { alloc, version }, id, page) {
+                return None;
+            }
         }
+        write_text(given, found)
     }
-    Ok(())
+}
+
+pub(crate) fn try_dumps(tester: &mut Tester<'_>) {
+    let ended = write_dump(tester.alloc(), &mut tester.found);
+    tester.try_text("the dump of an item", ITEM, ended);
+    tester.try_rows("what is kept is made without the dump", PAGES, &mut Pages);
 }

@@ -1,24 +1,39 @@
 // Revisions of a folder that the test makes.
 
-use crate::checks::check;
-use anyhow::Result;
+use crate::tester::{Subject, Tester, write_number, write_text};
 use revisions::{Folder, NoRevision, Revisions};
 use std::alloc::Global;
 use std::rt::Files;
 use std::{fs, io};
 
-// What a fetch gives is to be this.
-pub(crate) fn check_fetch<R: Revisions>(
+// The folder of an item with a page, a file where another item's folder would be, and what fetches give.
+const FETCHES: &str = "Q1 7 => bytes
+Q1 8 => missing
+Q2 7 => missing
+Q3 7 => failed
+Q1/7.json 7 => failed";
+
+// How many bytes a page has that is too large, and how many of them a fetch gives: one more than a page may have.
+const LARGE: &str = "8388610 => 8388609";
+
+// Writes what a fetch of a place and a revision gives.
+pub(crate) fn write_fetch<R: Revisions>(
     alloc: Global,
     revisions: &mut R,
-    place: &str,
-    rev: u64,
-    want: Result<&str, NoRevision>,
-) -> Result<()> {
-    let want = want.map(|text| text.as_bytes());
+    given: &str,
+    found: &mut Vec<u8>,
+) -> Option<()> {
+    let (place, rev) = given.split_once(' ')?;
+    let rev = rev.parse().ok()?;
     match revisions.fetch(alloc, place, rev) {
-        Ok(bytes) => check((rev, Ok(bytes.as_slice())), (rev, want), place),
-        Err(why) => check((rev, Err(why)), (rev, want), place),
+        Ok(page) => {
+            let written = found.extend_from_slice(page.as_slice());
+            drop(page);
+            written.ok()
+        }
+        Err(NoRevision::Missing) => write_text("missing", found),
+        Err(NoRevision::Failed) => write_text("failed", found),
+        Err(NoRevision::OutOfMemory) => None,
     }
 }
 
@@ -36,29 +51,27 @@ fn remove_pages(rt: &impl Files) -> io::Result<()> {
     fs::remove_dir(rt, "Q1")
 }
 
-pub(crate) fn of_a_folder(rt: &HostRuntime) -> Result<()> {
-    make_pages(rt)?;
-    let checked = check_folder(rt.alloc(), &mut Folder::new(rt));
-    remove_pages(rt)?;
-    checked
+#[derive(Drop)]
+struct Pages<'a> {
+    rt: &'a HostRuntime,
 }
 
-// Checks what fetches give of the folder that was made.
-fn check_folder<R: Revisions>(alloc: Global, revisions: &mut R) -> Result<()> {
-    check_fetch(alloc, revisions, "Q1", 7, Ok("bytes"))?;
-    check_fetch(alloc, revisions, "Q1", 8, Err(NoRevision::Missing))?;
-    check_fetch(alloc, revisions, "Q2", 7, Err(NoRevision::Missing))?;
-    check_fetch(alloc, revisions, "Q3", 7, Err(NoRevision::Failed))?; // a file stands in the place of the folder
-    check_fetch(alloc, revisions, "Q1/7.json", 7, Err(NoRevision::Failed))
+impl<'a> Subject for Pages<'a> {
+    fn answer(&mut self, alloc: Global, given: &str, found: &mut Vec<u8>) -> Option<()> {
+        make_pages(self.rt).ok()?;
+        let written = write_fetch(alloc, &mut Folder::new(self.rt), given, found);
+        remove_pages(self.rt).ok()?;
+        written
+    }
 }
 
 // Makes the folder of an item with a page of so many bytes.
-fn make_page(rt: &HostRuntime, length: usize) -> Result<()> {
-    fs::create_dir(rt, "Q4")?;
-    let page = vec![in rt.alloc(); b'0'; length]?;
+fn make_page(rt: &HostRuntime, length: usize) -> Option<()> {
+    fs::create_dir(rt, "Q4").ok()?;
+    let page = vec![in rt.alloc(); b'0'; length].ok()?;
     let written = fs::write(rt, "Q4/1.json", page.as_slice());
     drop(page);
-    Ok(written?)
+    written.ok()
 }
 
 // Removes it.
@@ -67,16 +80,26 @@ fn remove_page(rt: &impl Files) -> io::Result<()> {
     fs::remove_dir(rt, "Q4")
 }
 
-// How many bytes a fetch of the page gives.
-fn fetched_length(rt: &HostRuntime) -> Result<usize, NoRevision> {
-    let bytes = Folder::new(rt).fetch(rt.alloc(), "Q4", 1)?;
-    Ok(bytes.len())
+#[derive(Drop)]
+struct Large<'a> {
+    rt: &'a HostRuntime,
 }
 
-// Of a page that is too large a fetch gives one byte more than a page may have.
-pub(crate) fn of_a_large_page(rt: &HostRuntime) -> Result<()> {
-    make_page(rt, 8_388_610)?;
-    let length = fetched_length(rt);
-    remove_page(rt)?;
-    check(length, Ok(8_388_609), "Q4")
+impl<'a> Subject for Large<'a> {
+    fn answer(&mut self, alloc: Global, given: &str, found: &mut Vec<u8>) -> Option<()> {
+        make_page(self.rt, given.parse().ok()?)?;
+        let page = Folder::new(self.rt).fetch(alloc, "Q4", 1);
+        let removed = remove_page(self.rt).ok();
+        let page = page.ok()?;
+        let length = page.len();
+        drop(page);
+        removed?;
+        write_number(alloc, "", length as u64, found)
+    }
+}
+
+pub(crate) fn try_folders(tester: &mut Tester<'_>) {
+    let rt = tester.rt;
+    tester.try_rows("revisions of a folder", FETCHES, &mut Pages { rt });
+    tester.try_rows("a large page of a folder", LARGE, &mut Large { rt });
 }

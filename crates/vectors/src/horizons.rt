@@ -2,56 +2,59 @@
 
 ghost use Rattle.std.specs.Prelude.{◌≡◌, false};
 
-use crate::checks::check;
-use anyhow::Result;
+use crate::tester::{Tester, write_number};
 use entity_model::{EntityId, Event, IdKind, Kind};
 use reorder_buffer::{Buffer, Taken};
 use std::alloc::Global;
 
-fn edit(time: i64, rev: u64) -> Event {
-    Event {
+// How each event is answered, and how many are remembered then, where the floor rises behind the second.
+const ANSWERS: &str = " new 1 new 2 floor 1 repeat 1 late 1";
+
+// Takes the edit of a revision at the time of the same number, and writes how it is answered, and how many are remembered then.
+fn take(alloc: Global, buffer: &mut Buffer, number: u32, found: &mut Vec<u8>) -> Option<()>
+    requires { buffer.old.closed ≡ false }
+    ensures { buffer.new.closed ≡ false }
+{
+    let event = Event {
         entity: EntityId {
             kind: IdKind::Q,
             number: 42,
         },
-        time,
-        rev,
+        time: i64::from(number),
+        rev: u64::from(number),
         kind: Kind::Edit,
-    }
+    };
+    let answer = match buffer.take(event) {
+        Ok(Taken::New) => " new ",
+        Ok(Taken::Repeat) => " repeat ",
+        Ok(Taken::Late) => " late ",
+        Err(_) => return None,
+    };
+    write_number(alloc, answer, buffer.remembered() as u64, found)
 }
 
-// Takes an event, which is to be answered so.
-fn take(buffer: &mut Buffer, event: Event, answer: Taken) -> Result<()>
-    requires { buffer.old.closed ≡ false }
-    ensures { buffer.new.closed ≡ false }
-{
-    let taken = buffer.take(event)?;
-    check(taken, answer, "an event")
-}
-
-// Raises the floor of a buffer with a horizon of 0 over what it remembers.
-fn check_floor(buffer: &mut Buffer) -> Result<()>
+// Raises the floor of a buffer with a horizon of 0 over the first of two events that it remembers, and takes both again.
+fn raise_floor(alloc: Global, buffer: &mut Buffer, found: &mut Vec<u8>) -> Option<()>
     requires { buffer.old.closed ≡ false }
 {
-    take(buffer, edit(1, 1), Taken::New)?;
-    take(buffer, edit(2, 2), Taken::New)?;
-    check(buffer.remembered(), 2, "two events")?;
-
+    take(alloc, buffer, 1, found)?;
+    take(alloc, buffer, 2, found)?;
     buffer.raise(2);
-    check(
-        buffer.remembered(),
-        1,
-        "two events, of which one is below the floor",
-    )?;
-    take(buffer, edit(2, 2), Taken::Repeat)?;
-    take(buffer, edit(1, 1), Taken::Late)?;
-    check(buffer.remembered(), 1, "both events again")
+    write_number(alloc, " floor ", buffer.remembered() as u64, found)?;
+    take(alloc, buffer, 2, found)?;
+    take(alloc, buffer, 1, found)
 }
 
-pub(crate) fn what_is_below_the_floor_is_forgotten(alloc: Global) -> Result<()> {
-    let mut buffer = Buffer::new(alloc)?;
+// The same for a new buffer.
+fn raise_new_floor(alloc: Global, found: &mut Vec<u8>) -> Option<()> {
+    let mut buffer = Buffer::new(alloc).ok()?;
     buffer.set_horizon(0);
-    let checked = check_floor(&mut buffer);
+    let raised = raise_floor(alloc, &mut buffer, found);
     drop(buffer);
-    checked
+    raised
+}
+
+pub(crate) fn try_horizons(tester: &mut Tester<'_>) {
+    let ended = raise_new_floor(tester.alloc(), &mut tester.found);
+    tester.try_text("what is below the floor is forgotten", ANSWERS, ended);
 }

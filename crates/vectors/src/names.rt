@@ -1,9 +1,8 @@
 // The test suite of RFC 1321, what md5sum says of the texts that name a number's node in both versions of the mapping, and fields
 // that are told apart.
 
-use crate::checks::{check, halves};
-use anyhow::Result;
-use rdf_term::{CowText, OutOfMemory};
+use crate::tester::{Subject, Tester, write_text};
+use rdf_term::CowText;
 use rdf_vocabulary::{hashed_name, push_field, push_optional_field};
 use std::alloc::Global;
 
@@ -18,24 +17,40 @@ ABCDEFGHIJKLMNOPQRSTUVWXYZabcdefghijklmnopqrstuvwxyz0123456789 => d174ab98d277d9
 q2:+51:1-- => 264596658257651e25b9a6e5508e8bad
 2q2:+535:http://www.wikidata.org/entity/Q199-- => b8574ffcd558908b664fb371373ee6bc";
 
-pub(crate) fn messages_are_hashed(alloc: Global) -> Result<()> {
-    for row in DIGESTS.lines() {
-        let (message, want) = halves(row, " => ")?;
-        let name = hashed_name(alloc, message)?;
-        check(name.as_str(), want, message)?;
+// A text, and what is written of it, of none and of an empty text as fields.
+const FIELDS: &str = "äb => 3:äb-0:";
+
+#[derive(Drop)]
+struct Digests;
+
+impl Subject for Digests {
+    fn answer(&mut self, alloc: Global, given: &str, found: &mut Vec<u8>) -> Option<()> {
+        let name = hashed_name(alloc, given).ok()?;
+        write_text(name.as_str(), found)
     }
-    Ok(())
 }
 
-// Writes a text, none and an empty text as fields.
-fn push_fields(fields: &mut String) -> Result<(), OutOfMemory> {
-    push_field("äb", fields)?;
-    push_optional_field(None, fields)?;
-    push_optional_field(Some(&CowText::borrowed("")), fields)
+#[derive(Drop)]
+struct Fields;
+
+impl Subject for Fields {
+    fn answer(&mut self, alloc: Global, given: &str, found: &mut Vec<u8>) -> Option<()> {
+        let mut fields = String::new(alloc);
+        let pushed = push_fields(given, &mut fields);
+        let written = write_text(fields.as_str(), found);
+        drop(fields);
+        pushed.and(written)
+    }
 }
 
-pub(crate) fn fields_are_told_apart(alloc: Global) -> Result<()> {
-    let mut fields = String::new(alloc);
-    push_fields(&mut fields)?;
-    check(fields.as_str(), "3:äb-0:", "three fields")
+// Appends a text, none and an empty text as fields.
+fn push_fields(text: &str, fields: &mut String) -> Option<()> {
+    push_field(text, fields).ok()?;
+    push_optional_field(None, fields).ok()?;
+    push_optional_field(Some(&CowText::borrowed("")), fields).ok()
+}
+
+pub(crate) fn try_names(tester: &mut Tester<'_>) {
+    tester.try_rows("messages are hashed", DIGESTS, &mut Digests);
+    tester.try_rows("fields are told apart", FIELDS, &mut Fields);
 }

@@ -1,43 +1,58 @@
 // Pages that are kept packed, and read back.
 
-use crate::checks::{check, halves};
-use anyhow::{Result, bail};
+use crate::tester::{Subject, Tester, write_text};
 use page_packing::{PackedPages, Unpacker, dictionary};
 use std::alloc::{AllocError, Global};
 
 // How often each text is repeated for a page: none and one byte, a page of one byte that is as long as a page may be, brackets, names with
-// few bytes between them, hashes, ids of statements, and a page.
-const ROWS: &str = r#"0 x
-1 x
-3 ab
-8388608 a
-500000 [
-100000 [{"a":
-20000 "0123456789abcdef0123456789abcdef01234567",
-9000 "Q42$F078E5B3-F9A8-480E-B7AC-D97778CBBEF9","q42$f078e5b3-f9a8-480e-b7ac-d97778cbbef9",
-1 {"entities":{"Q42":{"type":"item","id":"Q42","labels":{"en":{"language":"en","value":"Douglas Adams"}},"claims":{}}}}"#;
+// few bytes between them, hashes, ids of statements, and a page. Then so many bytes that look like chance.
+const ROWS: &str = r#"0 x => the same
+1 x => the same
+3 ab => the same
+8388608 a => the same
+500000 [ => the same
+100000 [{"a": => the same
+20000 "0123456789abcdef0123456789abcdef01234567", => the same
+9000 "Q42$F078E5B3-F9A8-480E-B7AC-D97778CBBEF9","q42$f078e5b3-f9a8-480e-b7ac-d97778cbbef9", => the same
+1 {"entities":{"Q42":{"type":"item","id":"Q42","labels":{"en":{"language":"en","value":"Douglas Adams"}},"claims":{}}}} => the same
+100000 chance => the same"#;
 
-// Keeps a page, reads it back, and lets it go.
-fn check_page(pages: &mut PackedPages, buffer: &mut Unpacker, page: &[u8]) -> Result<()> {
-    if page.len() > 8_388_608 {
-        bail!("a page");
-    }
-    let piece = pages.put(page)?;
-    pages.read(&piece, buffer)?;
-    pages.free(piece);
-    check(buffer.text() == page, true, "a page")
+// Pages that are kept, and the buffer into which they are read back.
+#[derive(Drop)]
+struct Kept {
+    pages: PackedPages,
+    buffer: Unpacker,
 }
 
-// Keeps a page of each row.
-fn check_rows(alloc: Global, pages: &mut PackedPages, buffer: &mut Unpacker) -> Result<()> {
-    for row in ROWS.lines() {
-        let (times, text) = halves(row, " ")?;
-        let page = text.repeat(alloc, times.parse()?)?;
-        let checked = check_page(pages, buffer, page.as_bytes());
+impl Subject for Kept {
+    fn answer(&mut self, alloc: Global, given: &str, found: &mut Vec<u8>) -> Option<()> {
+        let (times, text) = given.split_once(' ')?;
+        let page = page_of(alloc, times.parse().ok()?, text)?;
+        let same = self.gives_back(page.as_slice());
         drop(page);
-        checked?;
+        write_text(if same? { "the same" } else { "another page" }, found)
     }
-    Ok(())
+}
+
+impl Kept {
+    // Keeps a page, reads it back, and lets it go, and says whether it is the same; None where memory is refused, or the page is too long.
+    fn gives_back(&mut self, page: &[u8]) -> Option<bool> {
+        if page.len() > 8_388_608 {
+            return None;
+        }
+        let piece = self.pages.put(page).ok()?;
+        let read = self.pages.read(&piece, &mut self.buffer);
+        self.pages.free(piece);
+        Some(read.is_ok() && self.buffer.text() == page)
+    }
+}
+
+// The page of a row.
+fn page_of(alloc: Global, times: usize, text: &str) -> Option<Vec<u8>> {
+    if text == "chance" {
+        return noise(alloc, times).ok();
+    }
+    Some(text.repeat(alloc, times).ok()?.into_bytes())
 }
 
 // Bytes that look like chance, which don't pack.
@@ -53,14 +68,19 @@ fn noise(alloc: Global, length: usize) -> Result<Vec<u8>, AllocError> {
     Ok(bytes)
 }
 
-pub(crate) fn pages_are_kept_packed(alloc: Global) -> Result<()> {
-    let noise = noise(alloc, 100_000)?;
-    let mut pages = PackedPages::new(alloc, dictionary())?;
-    let mut buffer = Unpacker::new(alloc);
-    let rows = check_rows(alloc, &mut pages, &mut buffer);
-    let checked = rows.and_then(|()| check_page(&mut pages, &mut buffer, noise.as_slice()));
-    drop(pages);
-    drop(buffer);
-    drop(noise);
-    checked
+// Pages of which none is kept.
+fn nothing_kept(alloc: Global) -> Option<Kept> {
+    let pages = PackedPages::new(alloc, dictionary()).ok()?;
+    let buffer = Unpacker::new(alloc);
+    Some(Kept { pages, buffer })
+}
+
+pub(crate) fn try_packing(tester: &mut Tester<'_>) {
+    match nothing_kept(tester.alloc()) {
+        Some(mut kept) => {
+            tester.try_rows("pages are kept packed", ROWS, &mut kept);
+            drop(kept);
+        }
+        None => tester.try_text("pages are kept packed", ROWS, None),
+    }
 }

@@ -1,21 +1,59 @@
 // Patches between small sets, worked out by hand.
 
-use crate::checks::{check, halves};
-use anyhow::Result;
+use crate::tester::{Subject, Tester, write_text};
 use rdf_term::{List, OutOfMemory, Term, Text, Triple, TripleSet};
 use std::alloc::Global;
-use triple_patch::{Patch, patch};
+use triple_patch::patch;
 
-// An old set, a new one, what comes and what goes. A letter stands for a triple.
-const ROWS: &str = "|||
-|abc|abc|
-abc|||abc
-abc|abc||
-ace|bd|bd|ace
-bd|ace|ace|bd
-abd|bcd|c|a
-cd|abcdef|abef|
-abcdef|cd||abef";
+// An old set and a new one, and then what comes and what goes. A letter stands for a triple.
+const ROWS: &str = "| => |
+|abc => abc|
+abc| => |abc
+abc|abc => |
+ace|bd => bd|ace
+bd|ace => ace|bd
+abd|bcd => c|a
+cd|abcdef => abef|
+abcdef|cd => |abef";
+
+#[derive(Drop)]
+struct Patches;
+
+impl Subject for Patches {
+    fn answer(&mut self, alloc: Global, given: &str, found: &mut Vec<u8>) -> Option<()> {
+        let (old, new) = given.split_once('|')?;
+        let old = set_of(alloc, old)?;
+        let Some(new) = set_of(alloc, new) else {
+            drop(old);
+            return None;
+        };
+        let patch = patch(alloc, &old, &new);
+        drop(old);
+        drop(new);
+        let patch = patch.ok()?;
+        let written = write_both(&patch.adds, &patch.removes, found);
+        drop(patch);
+        written
+    }
+}
+
+// The set of the letters' triples.
+fn set_of(alloc: Global, letters: &str) -> Option<TripleSet> {
+    let mut list = List::new(alloc);
+    if push_triples(alloc, letters, &mut list).is_err() {
+        drop(list);
+        return None;
+    }
+    TripleSet::from_list(list).ok()
+}
+
+// Puts the letters' triples into the list.
+fn push_triples(alloc: Global, letters: &str, list: &mut List<Triple>) -> Result<(), OutOfMemory> {
+    for letter in letters.chars() {
+        list.push(triple(alloc, letter)?)?;
+    }
+    Ok(())
+}
 
 // The triple of a letter.
 fn triple(alloc: Global, letter: char) -> Result<Triple, OutOfMemory> {
@@ -30,63 +68,23 @@ fn triple(alloc: Global, letter: char) -> Result<Triple, OutOfMemory> {
     })
 }
 
-// Puts the letters' triples into the list.
-fn push_triples(alloc: Global, letters: &str, list: &mut List<Triple>) -> Result<(), OutOfMemory> {
-    for letter in letters.chars() {
-        list.push(triple(alloc, letter)?)?;
-    }
-    Ok(())
+// Writes the letters of what comes, and of what goes.
+fn write_both(adds: &TripleSet, removes: &TripleSet, found: &mut Vec<u8>) -> Option<()> {
+    write_letters(adds.items(), found)?;
+    write_text("|", found)?;
+    write_letters(removes.items(), found)
 }
 
-// The set of the letters' triples.
-fn set(alloc: Global, letters: &str) -> Result<TripleSet, OutOfMemory> {
-    let mut list = List::new(alloc);
-    if let Err(refused) = push_triples(alloc, letters, &mut list) {
-        drop(list);
-        return Err(refused);
-    }
-    TripleSet::from_list(list)
-}
-
-// The patch from the old letters' set to the new ones'.
-fn patch_of(alloc: Global, old: &str, new: &str) -> Result<Patch, OutOfMemory> {
-    let old = set(alloc, old)?;
-    let new = match set(alloc, new) {
-        Ok(new) => new,
-        Err(refused) => {
-            drop(old);
-            return Err(refused);
+// Writes the triples' letters.
+fn write_letters(triples: &[Triple], found: &mut Vec<u8>) -> Option<()> {
+    for triple in triples {
+        if let Term::Plain(letter) = &triple.object {
+            write_text(letter.as_str(), found)?;
         }
-    };
-    let patch = patch(alloc, &old, &new);
-    drop(old);
-    drop(new);
-    patch
-}
-
-// Whether the set is that of these letters.
-fn is_set_of(alloc: Global, triples: &TripleSet, letters: &str) -> Result<bool, OutOfMemory> {
-    let set = set(alloc, letters)?;
-    let same = triples.items() == set.items();
-    drop(set);
-    Ok(same)
-}
-
-// Checks whether the patch of a row has what comes, and what goes.
-fn check_row(alloc: Global, row: &str) -> Result<()> {
-    let (old, rest) = halves(row, "|")?;
-    let (new, rest) = halves(rest, "|")?;
-    let (adds, removes) = halves(rest, "|")?;
-    let patch = patch_of(alloc, old, new)?;
-    let has_adds = is_set_of(alloc, &patch.adds, adds);
-    let has_removes = is_set_of(alloc, &patch.removes, removes);
-    drop(patch);
-    check((has_adds?, has_removes?), (true, true), row)
-}
-
-pub(crate) fn patches_lead_from_one_set_to_another(alloc: Global) -> Result<()> {
-    for row in ROWS.lines() {
-        check_row(alloc, row)?;
     }
-    Ok(())
+    Some(())
+}
+
+pub(crate) fn try_patches(tester: &mut Tester<'_>) {
+    tester.try_rows("patches lead from one set to another", ROWS, &mut Patches);
 }

@@ -1,11 +1,10 @@
 // A pool that fills up, and that has room again.
 
-ghost use Rattle.std.specs.Prelude.{◌≡◌, true, IfSome, OnOk};
+ghost use Rattle.std.specs.Prelude.{◌≡◌, true, IfSome};
 ghost use Rattle.rdf_term.specs.Fit.{is_fit, IsFitAndShort};
 ghost use Rattle.term_pool.specs.Pool.{LiesIn};
 
-use crate::checks::{check, halves};
-use anyhow::{Context, Result};
+use crate::tester::{Tester, write_number, write_text};
 use rdf_term::{Term, write_term};
 use std::alloc::Global;
 use std::hash::RandomState;
@@ -13,19 +12,22 @@ use term_pool::{Pool, PoolFault};
 use term_reading::read_term;
 use text_region::Region;
 
-// For a pool of two terms at most: one more use of a term or one less, how many terms are there then, or that it is full, and whether the
-// term is found. The same text as an IRI and as a literal are two terms.
-const STEPS: &str = "+ <a> 1 there
-+ \"a\" 2 there
-+ <b> full gone
-+ <a> 2 there
-- <a> 2 there
-- \"a\" 1 gone
-+ <b> 2 there
-+ \"a\" full gone
-- <a> 1 gone
-- <b> 0 gone
-+ \"a\" 1 there";
+// For a pool of two terms at most: one more use of a term or one less, how many terms and how many blocks of the least class there are
+// then, whether the pool was full, and whether the term is found. The texts are short, so each term has such a block. The same text as an
+// IRI and as a literal are two terms.
+const STEPS: &str = "\
++ <a> = 1 1 there
++ \"a\" = 2 2 there
++ <b> = 2 2 full gone
++ <a> = 2 2 there
+- <a> = 2 2 there
+- \"a\" = 1 1 gone
++ <b> = 2 2 there
++ \"a\" = 2 2 full gone
+- <a> = 1 1 gone
+- <b> = 0 0 gone
++ \"a\" = 1 1 there
+";
 
 // Whether a pool takes the term, which is fit, since its text is short; not where memory is refused.
 fn is_short(alloc: Global, term: &Term) -> bool
@@ -78,58 +80,85 @@ fn release(pool: &mut Pool, region: &mut Region, term: &Term) -> Option<()>
 }
 
 // Counts one more use of a term, or one less, and says whether the pool is full for it.
-fn is_full_for_call(pool: &mut Pool, region: &mut Region, sign: &str, term: &Term) -> Option<bool>
+fn is_full_for_call(pool: &mut Pool, region: &mut Region, more: bool, term: &Term) -> Option<bool>
     requires lies { LiesIn pool.old region.old }
     requires fit { IsFitAndShort term.now }
     ensures { LiesIn pool.new region.new }
 {
-    if sign == "+" {
+    if more {
         return is_full_for(pool, region, term);
     }
     release(pool, region, term)?;
     Some(false)
 }
 
-// Checks whether the pool was full and has the term, and how many terms it has where it wasn't full.
-fn check_row(found: (Option<bool>, bool), len: u32, row: &str, step: &str) -> Result<()> {
-    let (count, there) = halves(row, " ")?;
-    check(found, (Some(count == "full"), there == "there"), step)?;
-    if count != "full" {
-        check(len, count.parse::<u32>()?, step)?;
-    }
-    Ok(())
+// Writes how many terms and blocks there are, whether the pool was full, and whether the term is found.
+fn write_pool(
+    alloc: Global,
+    counts: (u32, u64),
+    answers: (bool, bool),
+    found: &mut Vec<u8>,
+) -> Option<()> {
+    let (terms, blocks) = counts;
+    write_number(alloc, " = ", u64::from(terms), found)?;
+    write_number(alloc, " ", blocks, found)?;
+    let answer = match answers {
+        (false, true) => " there\n",
+        (false, false) => " gone\n",
+        (true, true) => " full there\n",
+        (true, false) => " full gone\n",
+    };
+    write_text(answer, found)
 }
 
-// Checks one step. The texts are short, so each term that is there has a block of the least class, and no other block is taken.
-fn check_step(alloc: Global, pool: &mut Pool, region: &mut Region, step: &str) -> Result<()>
+// Takes a step, and writes it again.
+fn take_step(
+    alloc: Global,
+    pool: &mut Pool,
+    region: &mut Region,
+    step: &str,
+    found: &mut Vec<u8>,
+) -> Option<()>
     requires { LiesIn pool.old region.old }
-    ensures { OnOk result (LiesIn pool.new region.new) }
+    ensures { LiesIn pool.new region.new }
 {
-    let (sign, row) = halves(step, " ")?;
-    let (text, row) = halves(row, " ")?;
-    let term = term_of(alloc, text).context("a term, or memory")?;
-    let full = is_full_for_call(pool, region, sign, &term);
+    let (call, _) = step.split_once(" = ")?;
+    write_text(call, found)?;
+    let (sign, text) = call.split_at_checked(2)?;
+    let term = term_of(alloc, text)?;
+    let full = is_full_for_call(pool, region, sign.starts_with('+'), &term);
     let there = pool.find(region, &term).is_some();
     drop(term);
-    check_row((full, there), pool.len(), row, step)?;
-    check(region.live(0), u64::from(pool.len()), step)
+    let counts = (pool.len(), region.live(0));
+    write_pool(alloc, counts, (full?, there), found)
 }
 
-// Checks all steps in turn.
-fn check_steps(alloc: Global, pool: &mut Pool, region: &mut Region) -> Result<()>
+// Takes all steps in turn.
+fn take_steps(
+    alloc: Global,
+    pool: &mut Pool,
+    region: &mut Region,
+    found: &mut Vec<u8>,
+) -> Option<()>
     requires { LiesIn pool.old region.old }
 {
     for step in STEPS.lines() {
-        check_step(alloc, pool, region, step)?;
+        take_step(alloc, pool, region, step, found)?;
     }
-    Ok(())
+    Some(())
 }
 
-pub(crate) fn a_pool_fills_up(alloc: Global, keys: RandomState) -> Result<()> {
-    let mut region = Region::new(alloc)?;
+// Fills a new pool.
+fn fill_pool(alloc: Global, keys: RandomState, found: &mut Vec<u8>) -> Option<()> {
+    let mut region = Region::new(alloc).ok()?;
     let mut pool = Pool::new(alloc, keys, 2);
-    let checked = check_steps(alloc, &mut pool, &mut region);
+    let filled = take_steps(alloc, &mut pool, &mut region, found);
     drop(pool);
     drop(region);
-    checked
+    filled
+}
+
+pub(crate) fn try_pools(tester: &mut Tester<'_>, keys: RandomState) {
+    let ended = fill_pool(tester.alloc(), keys, &mut tester.found);
+    tester.try_text("a pool fills up", STEPS, ended);
 }

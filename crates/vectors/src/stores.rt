@@ -5,9 +5,8 @@ ghost use Rattle.sorted_sets.specs.Rising.{has};
 ghost use Rattle.rdf_term.specs.{declared.triple.Triple.Triple as TheTriple, Fit.HasFitAndShortTerms, Fit.IsFitAndShort, Order.triple_cmp};
 ghost use Rattle.triple_store.specs.{Counts.count_of, StoreState.counts_in};
 
-use crate::checks::{check, halves};
 use crate::pools::term_of;
-use anyhow::{Context, Result};
+use crate::tester::{Subject, Tester, write_number};
 use rdf_term::{List, Term, Triple, TripleSet};
 use std::alloc::Global;
 use std::hash::RandomState;
@@ -15,28 +14,29 @@ use triple_patch::Patch;
 use triple_store::{Store, StoreFault, Uncounted};
 
 // For a store of two terms at most: a triple gets an owner (`+`) or loses one (`-`), or gets one while the triple `<a> <b> <a>` loses
-// one in the same patch (`~`), or the store is full for it (`!`). Then how many owners it has, and how many triples are stored.
-const STEPS: &str = "! <a> <b> <c> = 0 0
-+ <a> <b> <a> = 1 1
-+ <a> <b> <a> = 2 1
-! <a> <b> \"a\" = 0 1
-+ <a> <b> <b> = 1 2
-- <a> <b> <a> = 1 2
-~ <a> <b> <b> = 2 1
-! <a> <b> <c> = 0 1
-+ <a> <b> <a> = 1 2
-~ <b> <b> <a> = 1 2
-- <b> <b> <a> = 0 1
-- <a> <b> <b> = 1 1
-- <a> <b> <b> = 0 0
-+ <c> <c> \"a\" = 1 1
-- <c> <c> \"a\" = 0 0";
+// one in the same patch (`~`). Then whether the store had room, how many owners the triple has, and how many triples are stored.
+const STEPS: &str = "\
++ <a> <b> <c> => full 0 0
++ <a> <b> <a> => room 1 1
++ <a> <b> <a> => room 2 1
++ <a> <b> \"a\" => full 0 1
++ <a> <b> <b> => room 1 2
+- <a> <b> <a> => room 1 2
+~ <a> <b> <b> => room 2 1
++ <a> <b> <c> => full 0 1
++ <a> <b> <a> => room 1 2
+~ <b> <b> <a> => room 1 2
+- <b> <b> <a> => room 0 1
+- <a> <b> <b> => room 1 1
+- <a> <b> <b> => room 0 0
++ <c> <c> \"a\" => room 1 1
+- <c> <c> \"a\" => room 0 0";
 
 // The triple that goes where another comes.
 const GOES: &str = "<a> <b> <a>";
 
 // The triple of three terms, where all are there.
-pub(crate) fn triple_from(
+fn triple_from(
     subject: Option<Term>,
     predicate: Option<Term>,
     object: Option<Term>,
@@ -67,7 +67,7 @@ pub(crate) fn triple_from(
 }
 
 // The triple that three words write, where they are terms that a pool takes; None too where memory is refused.
-pub(crate) fn triple_of(alloc: Global, words: &str) -> Option<Triple>
+fn triple_of(alloc: Global, words: &str) -> Option<Triple>
     ensures { IfSome result HasFitAndShortTerms }
 {
     let (subject, rest) = words.split_once(' ')?;
@@ -149,15 +149,15 @@ fn lower(alloc: Global, store: &mut Store, triple: &Triple) -> Option<()> {
 }
 
 // Does the call of a step, and says whether the store is full for the triple.
-fn is_full_for_call(alloc: Global, store: &mut Store, sign: &str, triple: &Triple) -> Option<bool>
+fn is_full_for_call(alloc: Global, store: &mut Store, sign: u8, triple: &Triple) -> Option<bool>
     requires { HasFitAndShortTerms triple.now }
 {
     match sign {
-        "-" => {
+        b'-' => {
             lower(alloc, store, triple)?;
             Some(false)
         }
-        "~" => is_full_beside(alloc, store, triple),
+        b'~' => is_full_beside(alloc, store, triple),
         _ => {
             let none = TripleSet::from_rising(List::new(alloc));
             is_full_for(alloc, store, triple, none)
@@ -165,40 +165,32 @@ fn is_full_for_call(alloc: Global, store: &mut Store, sign: &str, triple: &Tripl
     }
 }
 
-// Checks how many owners a triple has, and how many triples are stored.
-fn check_counts(store: &Store, triple: &Triple, counts: &str, step: &str) -> Result<()> {
-    let (owners, triples) = halves(counts, " ")?;
-    let want = (owners.parse::<u64>()?, triples.parse::<usize>()?);
-    check(
-        (store.owners(triple, &mut Uncounted), store.triples()),
-        want,
-        step,
-    )
+#[derive(Drop)]
+struct FillingStore {
+    store: Store,
 }
 
-// Checks one step.
-fn check_step(alloc: Global, store: &mut Store, step: &str) -> Result<()> {
-    let (call, counts) = halves(step, " = ")?;
-    let (sign, words) = halves(call, " ")?;
-    let triple = triple_of(alloc, words).context("a triple, or memory")?;
-    let full = is_full_for_call(alloc, store, sign, &triple);
-    let checked = check_counts(store, &triple, counts, step);
-    drop(triple);
-    check(full, Some(sign == "!"), step)?;
-    checked
-}
-
-// Checks all steps in turn.
-fn check_steps(alloc: Global, store: &mut Store) -> Result<()> {
-    for step in STEPS.lines() {
-        check_step(alloc, store, step)?;
+impl Subject for FillingStore {
+    fn answer(&mut self, alloc: Global, given: &str, found: &mut Vec<u8>) -> Option<()> {
+        let (sign, words) = given.split_once(' ')?;
+        let sign = *sign.as_bytes().first()?;
+        let triple = triple_of(alloc, words)?;
+        let full = is_full_for_call(alloc, &mut self.store, sign, &triple);
+        let owners = self.store.owners(&triple, &mut Uncounted);
+        drop(triple);
+        let answer = if full? { "full " } else { "room " };
+        write_number(alloc, answer, owners, found)?;
+        write_number(alloc, " ", self.store.triples() as u64, found)
     }
-    Ok(())
 }
 
-pub(crate) fn a_store_fills_up(alloc: Global, keys: RandomState) -> Result<()> {
-    let mut store = Store::new(alloc, keys, 2)?;
-    let checked = check_steps(alloc, &mut store);
-    drop(store);
-    checked
+pub(crate) fn try_stores(tester: &mut Tester<'_>, keys: RandomState) {
+    match Store::new(tester.alloc(), keys, 2) {
+        Ok(store) => {
+            let mut filling = FillingStore { store };
+            tester.try_rows("a store fills up", STEPS, &mut filling);
+            drop(filling);
+        }
+        Err(_) => tester.try_text("a store fills up", STEPS, None),
+    }
 }

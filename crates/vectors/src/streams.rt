@@ -1,9 +1,13 @@
 // A reader and a writer of std as a source and a sink.
 
-use crate::checks::check;
-use anyhow::Result;
+use crate::tester::{Tester, write_number, write_text};
+use std::alloc::Global;
 use std::io::{self, ErrorKind, Read, Write};
-use wq_io::{Failed, NoWrite, Sink, Source, StdSink, StdSource};
+use wq_io::{NoWrite, Sink, Source, StdSink, StdSource};
+
+// What a source reads of three bytes by two, and of a reader whose calls fail; how many bytes a sink takes into three bytes, and what
+// stands there when it has flushed; and how many it takes into a writer that can't flush.
+const CALLS: &str = " read ab read c read  failed took 3 failed flushed abc took 3 failed";
 
 // A reader whose calls fail.
 #[derive(Drop)]
@@ -29,36 +33,68 @@ impl Write for Unflushed {
     }
 }
 
-// Checks what a source reads of three bytes, and of a reader whose calls fail.
-fn check_sources() -> Result<()> {
-    let mut source = StdSource::new(&b"abc"[..]);
+// Reads two bytes, and writes what was read.
+fn write_read<S: Source>(source: &mut S, found: &mut Vec<u8>) -> Option<()> {
     let mut buffer = [0; 2];
-    check(source.read(&mut buffer), Ok(2), "two bytes")?;
-    check(buffer.as_slice(), b"ab".as_slice(), "two bytes")?;
-    check(source.read(&mut buffer), Ok(1), "the last byte")?;
-    check(source.read(&mut buffer), Ok(0), "the end")?;
-    let failed = StdSource::new(Broken).read(&mut buffer);
-    check(failed, Err(Failed), "a reader whose calls fail")
+    match source.read(&mut buffer) {
+        Ok(count) => {
+            write_text(" read ", found)?;
+            found.extend_from_slice(buffer.get(..count)?).ok()
+        }
+        Err(_) => write_text(" failed", found),
+    }
 }
 
-// Checks what a sink writes into three bytes, and into a writer that can't flush.
-fn check_sinks() -> Result<()> {
-    let mut written = [0; 3];
-    let mut sink = StdSink::new(&mut written[..]);
-    check(sink.write(b"abcd"), Ok(3), "four bytes")?;
-    check(sink.write(b"d"), Err(NoWrite::Failed), "the last byte")?;
-    check(sink.flush(), Ok(()), "nothing is kept back")?;
-    check(written.as_slice(), b"abc".as_slice(), "three bytes")?;
+// Hands bytes to a sink, and writes how many it took.
+fn write_taken<K: Sink>(
+    alloc: Global,
+    bytes: &[u8],
+    sink: &mut K,
+    found: &mut Vec<u8>,
+) -> Option<()> {
+    if bytes.is_empty() {
+        return None;
+    }
+    match sink.write(bytes) {
+        Ok(count) => write_number(alloc, " took ", count as u64, found),
+        Err(NoWrite::Failed) => write_text(" failed", found),
+        Err(NoWrite::OutOfMemory) => None,
+    }
+}
+
+// Flushes a sink, and writes whether it did.
+fn write_flushed<K: Sink>(sink: &mut K, found: &mut Vec<u8>) -> Option<()> {
+    match sink.flush() {
+        Ok(()) => write_text(" flushed ", found),
+        Err(NoWrite::Failed) => write_text(" failed", found),
+        Err(NoWrite::OutOfMemory) => None,
+    }
+}
+
+// Reads of sources.
+fn write_sources(found: &mut Vec<u8>) -> Option<()> {
+    let mut source = StdSource::new(&b"abc"[..]);
+    for _ in 0..3 {
+        write_read(&mut source, found)?;
+    }
+    write_read(&mut StdSource::new(Broken), found)
+}
+
+// Writes into sinks.
+fn write_sinks(alloc: Global, found: &mut Vec<u8>) -> Option<()> {
+    let mut three = [0; 3];
+    let mut sink = StdSink::new(&mut three[..]);
+    write_taken(alloc, b"abcd", &mut sink, found)?;
+    write_taken(alloc, b"d", &mut sink, found)?;
+    write_flushed(&mut sink, found)?;
+    found.extend_from_slice(three.as_slice()).ok()?;
     let mut unflushed = StdSink::new(Unflushed);
-    check(unflushed.write(b"abc"), Ok(3), "a writer that can't flush")?;
-    check(
-        unflushed.flush(),
-        Err(NoWrite::Failed),
-        "a writer that can't flush",
-    )
+    write_taken(alloc, b"abc", &mut unflushed, found)?;
+    write_flushed(&mut unflushed, found)
 }
 
-pub(crate) fn streams() -> Result<()> {
-    check_sources()?;
-    check_sinks()
+pub(crate) fn try_streams(tester: &mut Tester<'_>) {
+    let read = write_sources(&mut tester.found);
+    let written = write_sinks(tester.alloc(), &mut tester.found);
+    tester.try_text("streams", CALLS, read.and(written));
 }

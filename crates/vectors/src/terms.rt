@@ -1,8 +1,7 @@
 // Terms that are made of texts which may not stand as they are, and copies of terms.
 
-use crate::checks::{check_written, halves};
-use anyhow::{Context, Result};
-use rdf_term::{Term, iri, tagged, write_term};
+use crate::tester::{Subject, Tester};
+use rdf_term::{OutOfMemory, Term, iri, tagged, write_term};
 use std::alloc::Global;
 use term_reading::read_term;
 
@@ -24,37 +23,44 @@ _:0a
 \"a\"@en
 \"1\"^^<http://a/c>";
 
-// Checks how a term is written.
-fn check_term(alloc: Global, term: Term, want: &str) -> Result<()> {
-    let mut written = Vec::new(alloc);
-    let outcome = write_term(&term, &mut written);
+// What is made of a text: an IRI, a literal in this language, or a copy of the term that it writes.
+#[derive(Drop)]
+enum Made {
+    Iri,
+    Literal,
+    Copy,
+}
+
+impl Subject for Made {
+    fn answer(&mut self, alloc: Global, given: &str, found: &mut Vec<u8>) -> Option<()> {
+        match self {
+            Made::Iri => write_made(iri(alloc, given), found),
+            Made::Literal => write_made(tagged(alloc, "x", given), found),
+            Made::Copy => write_copy(alloc, given, found),
+        }
+    }
+}
+
+// Writes a copy of the term that a text writes.
+fn write_copy(alloc: Global, given: &str, found: &mut Vec<u8>) -> Option<()> {
+    let Ok(Some(term)) = read_term(alloc, given) else {
+        return None;
+    };
+    let copy = term.copy(alloc);
     drop(term);
-    outcome?;
-    check_written(written.as_slice(), want)
+    write_made(copy, found)
 }
 
-pub(crate) fn texts_are_iris(alloc: Global) -> Result<()> {
-    for row in IRIS.lines() {
-        let (text, want) = halves(row, " => ")?;
-        check_term(alloc, iri(alloc, text)?, want)?;
-    }
-    Ok(())
+// Writes a term that was made.
+fn write_made(made: Result<Term, OutOfMemory>, found: &mut Vec<u8>) -> Option<()> {
+    let term = made.ok()?;
+    let written = write_term(&term, found);
+    drop(term);
+    written.ok()
 }
 
-pub(crate) fn texts_have_languages(alloc: Global) -> Result<()> {
-    for row in LANGUAGES.lines() {
-        let (language, want) = halves(row, " => ")?;
-        check_term(alloc, tagged(alloc, "x", language)?, want)?;
-    }
-    Ok(())
-}
-
-pub(crate) fn terms_are_copied(alloc: Global) -> Result<()> {
-    for text in TERMS.lines() {
-        let term = read_term(alloc, text)?.context("a term")?;
-        let copy = term.copy(alloc);
-        drop(term);
-        check_term(alloc, copy?, text)?;
-    }
-    Ok(())
+pub(crate) fn try_terms(tester: &mut Tester<'_>) {
+    tester.try_rows("texts are IRIs", IRIS, &mut Made::Iri);
+    tester.try_rows("texts have languages", LANGUAGES, &mut Made::Literal);
+    tester.try_rows("terms are copied", TERMS, &mut Made::Copy);
 }
