@@ -25,6 +25,12 @@ pub record PartsState : Type 0 where
   pub shared : List Triple
   pub strangers : List EntityId
 
+-- they go on being those of a page of this entity, counted or not, and no call failed that hadn't
+pub record GoOn (old new : PartsState) : Type 0 where
+  pub entity : new.entity ≡ old.entity
+  pub counted : new.is_counted ≡ old.is_counted
+  pub failed : new.has_failed ≡ old.has_failed
+
 -- one part has exactly the triples that stand in the page alone, the other the rest
 pub record AreSplit (x : EntityId) (is_counted : Bool) (all own shared : List Triple) (others : List EntityId) : Type 0 where
   pub own_are : (t : Triple) → has triple_cmp t own ≡ (stands_alone is_counted x t && has triple_cmp t all)

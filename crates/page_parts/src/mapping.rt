@@ -25,6 +25,7 @@ use triple_sink::{Setting, TripleSink};
 
 /// The triples of the page that the bytes of the wanted revision are, in two parts, or why they are no page. Where some entities are
 /// counted, and it is said whether the page's entity is one of them, the parts are what stands in this page alone and what is stored of it.
+/// A fault is OutOfMemory only where a request for memory was refused.
 pub fn parts_in(
     alloc: Global,
     wanted: Wanted,

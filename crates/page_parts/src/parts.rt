@@ -1,7 +1,8 @@
 // The sink that takes the triples of a page apart.
 
-ghost use Rattle.std.specs.Prelude.{◌≡◌, [], false, true};
-ghost use Rattle.page_parts.specs.Parts.{AreParts};
+ghost use Rattle.std.specs.Prelude.{◌≡◌, [], ◌∷◌, false, true, OnOk};
+ghost use Rattle.triple_sink.specs.{Gains.Gains, Gains.KeepsFront, Subject.IsKnown, TermRef.meant_triple};
+ghost use Rattle.page_parts.specs.Parts.{AreParts, GoOn};
 
 use crate::homes::{belongs_alone, home_of_term, note_stranger};
 use crate::texts::PartTexts;
@@ -86,6 +87,8 @@ impl PageParts {
         ensures entity { result ≡ true → self.now.entity ≡ entity }
         ensures counted { result ≡ true → self.now.is_counted ≡ is_counted }
         ensures parts { result ≡ true → AreParts self.now }
+        ensures failed { result ≡ true → self.now.has_failed ≡ false }
+        ensures whole { self.now.entity ≡ entity → self.now.is_counted ≡ is_counted → self.now.has_failed ≡ false → result ≡ true }
     {
         !self.has_failed && self.entity == entity && self.is_counted == is_counted
     }
@@ -119,13 +122,18 @@ impl TripleSink for PageParts {
 
     ghost keeps = { λ parts triple. triple ∷ [] };
 
+    // After an answer without a fault they are whole if they were.
     fn emit(
         &mut self,
         _alloc: Global,
         subject: &TermRef<'_>,
         predicate: &TermRef<'_>,
         object: &TermRef<'_>,
-    ) -> Result<(), OutOfMemory> {
+    ) -> Result<(), OutOfMemory>
+        ensures gains { OnOk result (Gains (λ p. p.all) (λ p triple. triple ∷ []) self.old self.new (meant_triple subject.now predicate.now object.now ∷ [])) }
+        ensures front { KeepsFront (λ p. p.all) self.old self.new }
+        ensures whole { OnOk result (GoOn self.old self.new) }
+    {
         let home = home_of_term(subject);
         let is_own = belongs_alone(self.entity, self.is_counted, home);
         self.places.reserve(1)?;
@@ -153,7 +161,12 @@ impl TripleSink for PageParts {
         subject: &Subject<'_>,
         predicate: &TermRef<'_>,
         object: &TermRef<'_>,
-    ) -> Result<(), OutOfMemory> {
+    ) -> Result<(), OutOfMemory>
+        requires known { IsKnown (λ p. p.all) self.old subject.now }
+        ensures gains { OnOk result (Gains (λ p. p.all) (λ p triple. triple ∷ []) self.old self.new (meant_triple subject.now.term predicate.now object.now ∷ [])) }
+        ensures front { KeepsFront (λ p. p.all) self.old self.new }
+        ensures whole { OnOk result (GoOn self.old self.new) }
+    {
         let Some(index) = subject.index else {
             return self.emit(alloc, &subject.term, predicate, object);
         };

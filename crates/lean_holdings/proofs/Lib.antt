@@ -1,0 +1,9 @@
+pub mod Going
+pub mod InStep
+pub mod Lasting
+pub mod Naming
+pub mod Rooming
+pub mod Seen
+pub mod Starting
+pub mod Staying
+pub mod Values

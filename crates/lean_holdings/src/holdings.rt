@@ -1,0 +1,141 @@
+// What the entities hold, with the triples that two pages may share.
+
+ghost use Rattle.std.specs.Prelude.{◌≡◌, ◌≤◌, [], false, None, Some, IfOk, MatchOption, OnErr, OnOk};
+ghost use Rattle.std.specs.FinMap as map;
+ghost use Rattle.entity_state.specs.Standing.{standing_of};
+ghost use Rattle.replay_model.specs.{Records.record_of, Versions.meaning_by};
+ghost use Rattle.fetched_pages.specs.Meaning.{meaning};
+ghost use Rattle.shared_triples.specs.Lean.{stored_of};
+ghost use Rattle.lean_holdings.specs.{Holding.counted_by, InStep.AreHolders, InStep.HasRoom, InStep.room_with};
+
+use crate::kept::LeanPage;
+use crate::records::{keep_record, make_room, read_held, standing_in};
+use entity_counts::EntityCounts;
+use entity_model::EntityId;
+use entity_state::{Standing, Table};
+use page_packing::{PackedPages, Unpacker, dictionary};
+use rdf_term::{List, OutOfMemory};
+use std::alloc::Global;
+use std::collections::BTreeSet;
+use std::hash::RandomState;
+use std::marker::Model;
+use triple_store::Store;
+
+/// The records of the entities, their pages, packed, and a store of those triples of the pages that do not stand in one page alone. A
+/// triple stands in a page alone where it belongs to the page's entity and this isn't counted; an entity is counted where another's page
+/// names it. Contracts see the records, each with the bytes that its entity holds, how many terms there may be, the entities whose pages
+/// are mapped by version Two, and how many pages name each entity that is counted.
+#[derive(Drop)]
+pub struct LeanHoldings {
+    alloc: Global,
+    store: Store,
+    pages: PackedPages,
+    table: Table<LeanPage>,
+    names: EntityCounts,
+    by_two: BTreeSet<EntityId>,
+}
+
+impl Model for LeanHoldings {
+    ghost use Rattle.triple_store.specs.StoreState.{limit_of};
+    ghost use Rattle.lean_holdings.specs.{Codes.lean_code, InStep.AreInStep, InStep.LeanState, Kept.seen};
+
+    ghost Value = { LeanState };
+
+    ghost coded = { lean_code };
+
+    ghost view = { λ a. record {
+      records = seen a.pages a.table.records;
+      limit = limit_of a.store;
+      by_two = a.by_two.keys;
+      names = a.names;
+    } };
+
+    ghost invariant = { λ a. AreInStep a.store a.pages a.names a.by_two.keys a.table.records };
+}
+
+impl LeanHoldings {
+    /// No record, and at most so many terms in the store. The hashes of the table and of the store are keyed by `keys`.
+    pub fn new(alloc: Global, keys: RandomState, limit: u32) -> Result<LeanHoldings, OutOfMemory>
+        ensures { IfOk result (λ holdings. holdings ≡ record { records = map.empty; limit = limit; by_two = []; names = map.empty }) }
+    {
+        let table = Table::new(alloc, keys)?;
+        let Ok(store) = Store::new(alloc, keys, limit) else {
+            drop(table);
+            return Err(OutOfMemory);
+        };
+        let Ok(pages) = PackedPages::new(alloc, dictionary()) else {
+            drop(table);
+            drop(store);
+            return Err(OutOfMemory);
+        };
+        Ok(LeanHoldings {
+            alloc,
+            store,
+            pages,
+            table,
+            names: EntityCounts::new(alloc),
+            by_two: BTreeSet::new(alloc),
+        })
+    }
+
+    /// What is stored has room, and what is named as mapped by version Two is held. It does nothing but to say so.
+    pub fn facts(&self)
+        ensures room { HasRoom (stored_of (counted_by self.now.names) (meaning_by meaning self.now.by_two))
+            self.now.limit self.now.records }
+        ensures holders { AreHolders self.now.by_two self.now.records }
+    {
+        let _ = &self.store;
+    }
+
+    /// What stands of an entity's record.
+    pub fn standing(&self, id: EntityId) -> Standing
+        ensures { result ≡ standing_of (record_of self.now.records id) }
+    {
+        standing_in(&self.table, id)
+    }
+
+    /// The revision that an entity holds, whose bytes are unpacked into a buffer. After `OutOfMemory`, and where nothing is held, the
+    /// buffer may hold any text.
+    pub fn held(&self, id: EntityId, page: &mut Unpacker) -> Result<Option<u64>, OutOfMemory>
+        ensures { IfOk result (λ held. MatchOption held ((record_of self.now.records id).held ≡ None)
+            (λ revision. (record_of self.now.records id).held ≡ Some (record { revision = revision; content = page.new }))) }
+    {
+        read_held(&self.pages, &self.table, id, page)
+    }
+
+    /// The ids of the entities with a record, in rising order.
+    pub fn entities(&self) -> Result<List<EntityId>, OutOfMemory>
+        ensures { IfOk result (λ ids. ids ≡ map.keys self.now.records) }
+    {
+        self.table.ids(self.alloc)
+    }
+
+    /// How many distinct terms the stored triples have.
+    pub fn terms(&self) -> u32
+        ensures count { result
+            ≡ room_with (stored_of (counted_by self.now.names) (meaning_by meaning self.now.by_two)) self.now.records [] }
+        ensures within { result ≤ self.now.limit }
+    {
+        self.store.terms()
+    }
+
+    /// Sets the record of an entity, which holds what it held. After `OutOfMemory` nothing has changed.
+    pub fn keep(&mut self, id: EntityId, after: Standing) -> Result<(), OutOfMemory>
+        ensures records { OnOk result (self.new.records ≡ map.insert self.old.records id (record {
+          state = after.state;
+          held = (record_of self.old.records id).held;
+          reconciled = after.reconciled;
+        })) }
+        ensures by_two { self.new.by_two ≡ self.old.by_two }
+        ensures names { self.new.names ≡ self.old.names }
+        ensures limit { self.new.limit ≡ self.old.limit }
+        ensures err { OnErr result (self.new ≡ self.old) }
+        ensures refused { OnErr result (map.contains_key self.old.records id ≡ false) }
+    {
+        let Ok(()) = make_room(&mut self.table, id) else {
+            return Err(OutOfMemory);
+        };
+        keep_record(&mut self.table, id, after);
+        Ok(())
+    }
+}

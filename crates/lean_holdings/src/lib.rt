@@ -1,0 +1,17 @@
+//! What the entities hold, where only the triples that two pages may share are stored, and the pages are kept packed.
+//!
+//! `holdings` has the records, the packed pages, the store, and how many pages name each entity; `kept` what is kept of a page, and
+//! `records` how it is read and put. `storing` stores all of a page whose entity is to be counted. `laws` says that all of it stays in step
+//! where an entity is counted in, and where a record is put in.
+#![tactic(auto)]
+
+mod holdings;
+mod kept;
+mod laws;
+mod records;
+mod storing;
+
+pub use holdings::LeanHoldings;
+pub use kept::LeanPage;
+pub use laws::holdings_stay_in_step;
+pub use storing::store_whole;
