@@ -2,6 +2,7 @@ pub mod Going
 pub mod InStep
 pub mod Lasting
 pub mod Naming
+pub mod Pieces
 pub mod Rooming
 pub mod Seen
 pub mod Starting

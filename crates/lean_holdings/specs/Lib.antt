@@ -1,4 +1,5 @@
 pub mod Codes
+pub mod Freeing
 pub mod Going
 pub mod Holding
 pub mod InStep

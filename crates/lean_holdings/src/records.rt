@@ -4,11 +4,11 @@ ghost use Rattle.std.specs.Prelude.{◌≡◌, false, None, Some, IfOk, IfSome, 
 ghost use Rattle.std.specs.FinMap as map;
 ghost use Rattle.entity_state.specs.{Standing.standing_of, Table.has_room};
 ghost use Rattle.text_region.specs.Region.{bytes_of};
-ghost use Rattle.lean_holdings.specs.Kept.{held_with, kept_of, piece_at};
+ghost use Rattle.lean_holdings.specs.{Freeing.FreesPiece, Kept.held_with, Kept.kept_of, Kept.piece_at};
 
 use crate::kept::{LeanPage, held_of};
 use entity_model::EntityId;
-use entity_state::{Record, Standing, Table};
+use entity_state::{Held, Record, Standing, Table};
 use page_packing::{PackedPages, Unpacker};
 use rdf_term::OutOfMemory;
 
@@ -92,5 +92,35 @@ pub fn keep_record(table: &mut Table<LeanPage>, id: EntityId, after: Standing)
             reconciled: after.reconciled,
         };
         let _ = table.put(id, record);
+    }
+}
+
+/// Puts a record and frees the piece of the page that the one before held. It takes no memory.
+pub fn replace(
+    pages: &mut PackedPages,
+    table: &mut Table<LeanPage>,
+    id: EntityId,
+    after: Standing,
+    held: Option<Held<LeanPage>>,
+)
+    requires room { IsTrue (has_room table.old id) }
+    requires live { IfSome (piece_at table.old.records id) (λ piece. IsSome (bytes_of pages.old piece)) }
+    ensures records { table.new.records ≡ map.insert table.old.records id (record {
+      state = after.state;
+      held = held;
+      reconciled = after.reconciled;
+    }) }
+    ensures freed { FreesPiece (piece_at table.old.records id) pages.old pages.new }
+{
+    let record = Record {
+        state: after.state,
+        held,
+        reconciled: after.reconciled,
+    };
+    let Some(before) = table.put(id, record) else {
+        return;
+    };
+    if let Some(held) = before.held {
+        pages.free(held.content.piece);
     }
 }
