@@ -24,7 +24,7 @@ use Rattle.lean_holdings.proofs.Naming.{counted_more, named_alike, named_held, n
 use Rattle.lean_holdings.proofs.{Lasting.held_again, Lasting.keys_same, Lasting.keys_stay, Lasting.record_elsewhere, Lasting.record_here, Seen.seen_moved}
 
 -- the keys of what an entity holds stay where what is stored of it does
-others_keyed : (before after : Meaning Triple) (s s2 : StoreState) (records records2 : Records) (y : EntityId) (keys : List Key)
+pub others_keyed : (before after : Meaning Triple) (s s2 : StoreState) (records records2 : Records) (y : EntityId) (keys : List Key)
     → ((t : Triple) → count_in (counts_in s2) t ≡ owners triple_cmp after records2 t) → KeepsKeys s s2
     → triples_of after records2 y ≡ triples_of before records y → AreKeysOf s keys (triples_of before records y) → AreKeysOf s2 keys (triples_of after records2 y)
 others_keyed before after s s2 records records2 y keys counts keeps same h =

@@ -1,6 +1,8 @@
+pub mod CountedIn
 pub mod Going
 pub mod InStep
 pub mod Lasting
+pub mod Moved
 pub mod Naming
 pub mod Pieces
 pub mod Rooming

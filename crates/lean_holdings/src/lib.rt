@@ -5,9 +5,11 @@
 //! where an entity is counted in, and where a record is put in.
 #![tactic(auto)]
 
+mod counting;
 mod holdings;
 mod kept;
 mod laws;
+mod names;
 mod records;
 mod storing;
 
