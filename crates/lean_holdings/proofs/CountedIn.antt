@@ -1,7 +1,8 @@
 -- An entity that holds no page is counted in, or one can't be counted in.
-use Rattle.std.proofs.Common.{◌≡◌, ℕ, ◌+◌, Bool, true, false, cond, List, [], Option, Some, None, is_some, refl, sym, ◌∙◌, ap, subst, true≢false}
+use Rattle.std.proofs.Common.{◌≡◌, ℕ, ◌+◌, ◌<◌, ◌≤◌, Bool, true, false, cond, List, [], Option, Some, None, is_some, length, refl, sym, ◌∙◌, ap, subst, true≢false, arith}
 use Rattle.std.specs.FinMap as map
 use Rattle.std.specs.Ordering.{eq_by_cmp}
+use Rattle.std.proofs.lemmas.{List.length-map, List.Sums.count_by-le-length}
 use Rattle.sorted_sets.specs.{Counting.one_if, Rising.has}
 use Rattle.sorted_sets.proofs.Bools.{equal}
 use Rattle.rdf_term.specs.{declared.triple.Triple.Triple, Order.triple_cmp}
@@ -12,13 +13,15 @@ use Rattle.slot_keys.specs.declared.key.Key.{Key}
 use Rattle.triple_catalog.specs.Counts.{Counts, count_of}
 use Rattle.triple_store.specs.StoreState.{AreKeysOf, HasKey, IsSound, KeepsKeys, StoreState, counts_in, is_key}
 use Rattle.triple_store.specs.Updates.{AreStored}
-use Rattle.replay_model.specs.{Records.Bytes, Records.Records, Records.record_of, Union.Meaning, Union.owners, Union.triples_held}
+use Rattle.replay_model.specs.{Records.Bytes, Records.Records, Records.record_of, Union.Meaning, Union.owners, Union.triples_at, Union.triples_held}
+use Rattle.replay_model.specs.Versions.{meaning_by}
+use Rattle.fetched_pages.specs.Meaning.{meaning}
 use Rattle.shared_triples.specs.Lean.{IsLean, count_in, stored_of, triples_of}
 use Rattle.entity_counts.specs.Naming.{Naming, counted_in, is_counted}
 use Rattle.lean_holdings.specs.declared.kept.LeanPage.{LeanPage}
-use Rattle.lean_holdings.specs.{Going.CountsIn, Holding.IsKept, Holding.counted_by}
-use Rattle.lean_holdings.specs.Kept.{KeptRecords, held_with, kept_of, keys_held, seen}
-use Rattle.lean_holdings.proofs.{Going.goes_counted, Going.others_keyed, Seen.held_is}
+use Rattle.lean_holdings.specs.{Going.CountsIn, Holding.IsKept, Holding.counted_by, InStep.AreHolders, InStep.AreInStep}
+use Rattle.lean_holdings.specs.Kept.{KeptRecords, held_with, kept_of, keys_held, record_with, seen}
+use Rattle.lean_holdings.proofs.{Going.goes_counted, Going.others_keyed, Seen.held_is, Values.values_keys}
 
 -- ---- no page
 
@@ -92,3 +95,30 @@ are_stored m s pages names kept x h = record {
       let one : (t : Triple) × HasKey s key t × (has triple_cmp t (triples_of (stored_of (counted_by names) m) (seen pages kept) x) ≡ true) = (h.keyed x).each key there in
       one.1.stored;
 }
+
+len_keys : {X : Type 0} (k : map.FinMap entity_cmp X) → map.len k ≡ length (map.keys k)
+len_keys k = map.len-entries k ∙ sym (length-map (map.entries k) (λ e. e.0))
+
+-- no count is saturated
+pub countable : (m : Meaning Triple) (s : StoreState) (pages : Texts) (names : Naming) (kept : KeptRecords) → IsKept m s pages names kept
+    → (n : ℕ) → map.len kept < n → (t : Triple) → count_of (counts_in s) t < n
+countable m s pages names kept h n few t =
+    let stored : Meaning Triple = stored_of (counted_by names) m in
+    let records : Records = seen pages kept in
+    let as_many : map.len records ≡ map.len kept = len_keys records ∙ ap length (values_keys (record_with (bytes_of pages)) kept) ∙ sym (len_keys kept) in
+    let owned : owners triple_cmp stored records t ≤ map.len records =
+    omega (arith, count_by-le-length (λ entry. has triple_cmp t (triples_at stored entry)) (map.entries records), map.len-entries records) in
+    let count : count_of (counts_in s) t ≡ owners triple_cmp stored records t = h.lean.counts t in
+    omega arith
+
+-- ---- by the versions of the mapping
+
+module _ (s s2 : StoreState) (pages : Texts) (names : Naming) (by_two : List EntityId) (kept : KeptRecords) (h : AreInStep s pages names by_two kept) where
+  -- an entity was counted in
+  pub counted_step : (names2 : Naming) (kept2 : KeptRecords) → IsKept (meaning_by meaning by_two) s2 pages names2 kept2 → seen pages kept2 ≡ seen pages kept
+      → AreInStep s2 pages names2 by_two kept2
+  counted_step names2 kept2 now alike = record { kept = now; by = subst (AreHolders by_two) (sym alike) h.by }
+
+  -- or none was
+  pub refused_step : IsSound s2 → counts_in s2 ≡ counts_in s → KeepsKeys s s2 → AreInStep s2 pages names by_two kept
+  refused_step sound counts keeps = record { kept = still_kept (meaning_by meaning by_two) s s2 pages names kept h.kept sound counts keeps; by = h.by }

@@ -1,9 +1,12 @@
 -- The room that the stored triples take.
-use Rattle.std.proofs.Common.{◌≡◌, ℕ, ◌<◌, ◌≤◌, true, List, [], ◌++◌, Option, Some, None, is_some, unwrap_or, nat_lt, lt-ltb, flat_map, refl, sym, ◌∙◌, ap, arith}
+use Rattle.std.proofs.Common.{◌≡◌, ℕ, ◌<◌, ◌≤◌, true, ◌||◌, List, [], ◌∷◌, ◌++◌, Option, Some, None, is_some, unwrap_or, nat_lt, lt-ltb, flat_map, length, refl, sym, ◌∙◌, ap, arith}
 use Rattle.std.specs.FinMap as map
-use Rattle.sorted_sets.proofs.Rising.{same_rising}
-use Rattle.rdf_term.specs.{declared.triple.Triple.Triple, Order.triple_cmp, Order.triple_cmp-total}
-use Rattle.rdf_term.proofs.Texts.{triple_cmp-IsAntisymmetric}
+use Rattle.std.specs.List.{list_any}
+use Rattle.sorted_sets.specs.Rising.{has, sorted}
+use Rattle.sorted_sets.proofs.{Finding.list_any-sorted, Rising.has-append, Rising.same_rising, Rising.sorted_same}
+use Rattle.rdf_term.specs.{declared.term.Term.Term, declared.triple.Triple.Triple}
+use Rattle.rdf_term.specs.Order.{term_cmp, term_cmp-total, triple_cmp, triple_cmp-total}
+use Rattle.rdf_term.proofs.Texts.{term_cmp-IsAntisymmetric, triple_cmp-IsAntisymmetric}
 use Rattle.entity_model.specs.declared.id.EntityId.{EntityId}
 use Rattle.triple_catalog.specs.{Counts.Counts, Counts.HaveOwners, Counts.count_of, Room.distinct, Room.room_for, Room.terms_of}
 use Rattle.triple_store.specs.StoreState.{IsSound, StoreState, counts_in, limit_of}
@@ -22,6 +25,21 @@ stored counts t h = by (map.get counts t) (h t)
     by None some = refl
     by (Some n) some = sym (lt-ltb 0 n (some refl))
 
+has_term : (q : Term) (ts : List Triple) → has term_cmp q (flat_map terms_of ts) ≡ list_any (λ t. has term_cmp q (terms_of t)) ts
+has_term q [] = refl
+has_term q (t ∷ ts) = has-append term_cmp q (terms_of t) (flat_map terms_of ts) ∙ ap (λ b. has term_cmp q (terms_of t) || b) (has_term q ts)
+
+-- triples of one set have the same terms
+distinct_same : (ts us : List Triple) → ((t : Triple) → has triple_cmp t ts ≡ has triple_cmp t us) → distinct (flat_map terms_of ts) ≡ distinct (flat_map terms_of us)
+distinct_same ts us same =
+    let set : sorted triple_cmp ts ≡ sorted triple_cmp us = sorted_same triple_cmp-total triple_cmp-IsAntisymmetric ts us same in
+    ap length (sorted_same term_cmp-total term_cmp-IsAntisymmetric (flat_map terms_of ts) (flat_map terms_of us) (λ q.
+    has_term q ts
+    ∙ sym (list_any-sorted triple_cmp triple_cmp-IsAntisymmetric (λ t. has term_cmp q (terms_of t)) ts)
+    ∙ ap (list_any (λ t. has term_cmp q (terms_of t))) set
+    ∙ list_any-sorted triple_cmp triple_cmp-IsAntisymmetric (λ t. has term_cmp q (terms_of t)) us
+    ∙ sym (has_term q us)))
+
 module _ (m : Meaning Triple) (counted : List EntityId) (s : StoreState) (records : Records) (sound : IsSound s) (h : IsLean m counted (count_in (counts_in s)) records) where
   -- the stored triples are the union of what is stored of each page
   stored_union : map.keys (counts_in s) ≡ union triple_cmp (stored_of counted m) records
@@ -33,6 +51,13 @@ module _ (m : Meaning Triple) (counted : List EntityId) (s : StoreState) (record
 
   pub room_is : room_for (counts_in s) [] ≡ room_with (stored_of counted m) records []
   room_is = ap (λ (ts : List Triple). distinct (flat_map terms_of (ts ++ []))) stored_union
+
+  -- the room that triples need beside the stored ones
+  pub room_more : (ts us : List Triple) → ((t : Triple) → has triple_cmp t ts ≡ has triple_cmp t us) → room_for (counts_in s) ts ≡ room_with (stored_of counted m) records us
+  room_more ts us same =
+      let stored : List Triple = union triple_cmp (stored_of counted m) records in
+      ap (λ (xs : List Triple). distinct (flat_map terms_of (xs ++ ts))) stored_union
+      ∙ distinct_same (stored ++ ts) (stored ++ us) (λ t. has-append triple_cmp t stored ts ∙ ap (λ b. has triple_cmp t stored || b) (same t) ∙ sym (has-append triple_cmp t stored us))
 
   pub room_held : HasRoom (stored_of counted m) (limit_of s) records
   room_held =

@@ -1,25 +1,33 @@
 // What the entities hold, with the triples that two pages may share.
 
-ghost use Rattle.std.specs.Prelude.{◌≡◌, ◌≤◌, [], false, None, Some, IfOk, MatchOption, OnErr, OnOk};
+ghost use Rattle.std.specs.Prelude.{◌≡◌, ◌<◌, ◌≤◌, [], false, None, Some, Err, IfOk, MatchOption, OnErr, OnOk};
 ghost use Rattle.std.specs.FinMap as map;
+ghost use Rattle.std.specs.List.{AllByRecursion};
+ghost use Rattle.sorted_sets.specs.Rising.{sorted};
+ghost use Rattle.rdf_term.specs.{Fit.HasFitAndShortTerms, Order.triple_cmp};
+ghost use Rattle.term_pool.specs.declared.fault.PoolFault.TheVariants.{Full};
 ghost use Rattle.entity_state.specs.Standing.{standing_of};
 ghost use Rattle.replay_model.specs.{Records.record_of, Versions.meaning_by};
 ghost use Rattle.fetched_pages.specs.Meaning.{meaning};
-ghost use Rattle.shared_triples.specs.Lean.{stored_of};
+ghost use Rattle.shared_triples.specs.Lean.{stored_of, triples_of};
+ghost use Rattle.entity_counts.specs.Naming.{counted_in};
 ghost use Rattle.lean_holdings.specs.{Holding.counted_by, InStep.AreHolders, InStep.HasRoom, InStep.room_with};
 
+use crate::counting::{count_page, meant_texts};
 use crate::kept::LeanPage;
-use crate::records::{keep_record, make_room, read_held, standing_in};
+use crate::records::{keep_record, make_room, read_held, standing_in, version_in};
 use entity_counts::EntityCounts;
 use entity_model::EntityId;
 use entity_state::{Standing, Table};
+use fetched_pages::Wanted;
 use page_packing::{PackedPages, Unpacker, dictionary};
 use rdf_term::{List, OutOfMemory};
 use std::alloc::Global;
 use std::collections::BTreeSet;
 use std::hash::RandomState;
 use std::marker::Model;
-use triple_store::Store;
+use triple_store::{Store, StoreFault};
+use triple_texts::TripleTexts;
 
 /// The records of the entities, their pages, packed, and a store of those triples of the pages that do not stand in one page alone. A
 /// triple stands in a page alone where it belongs to the page's entity and this isn't counted; an entity is counted where another's page
@@ -137,5 +145,48 @@ impl LeanHoldings {
         };
         keep_record(&mut self.table, id, after);
         Ok(())
+    }
+
+    /// Counts an entity, since another's page names it, and stores all triples of the page that it holds, which is unpacked into a buffer.
+    /// Nothing is told of it, since no triple comes to the pages or goes. After a fault nothing has changed. The fault is `Full` if the
+    /// page's triples, with the stored ones, have more distinct terms than the limit.
+    pub fn count_in(&mut self, id: EntityId, buffer: &mut Unpacker) -> Result<(), StoreFault>
+        ensures records { self.new.records ≡ self.old.records }
+        ensures by_two { self.new.by_two ≡ self.old.by_two }
+        ensures names { OnOk result (self.new.names ≡ counted_in self.old.names id) }
+        ensures limit { self.new.limit ≡ self.old.limit }
+        ensures err { OnErr result (self.new ≡ self.old) }
+        ensures full { result ≡ Err Full → self.old.limit
+            < room_with (stored_of (counted_by self.old.names) (meaning_by meaning self.old.by_two)) self.old.records
+            (triples_of (meaning_by meaning self.old.by_two) self.old.records id) }
+    {
+        if self.names.is_counted(id) {
+            return Ok(());
+        }
+        // A triple has at most as many owners as there are records, so no count is saturated.
+        let entities = self.table.len();
+        prove!(entities < usize::MAX);
+        let Ok(page) = self.page_texts(id, buffer) else {
+            return Err(StoreFault::OutOfMemory);
+        };
+        let counted = count_page(&mut self.store, &mut self.table, &mut self.names, id, &page);
+        drop(page);
+        match counted {
+            Ok(()) => Ok(()),
+            Err(fault) => Err(fault),
+        }
+    }
+
+    // The triples of the page that an entity holds, which is unpacked into a buffer: none where it holds none.
+    fn page_texts(&self, id: EntityId, buffer: &mut Unpacker) -> Result<TripleTexts, OutOfMemory>
+        ensures value { IfOk result (λ texts. sorted triple_cmp texts
+            ≡ triples_of (meaning_by meaning self.now.by_two) self.now.records id) }
+        ensures fit { IfOk result (AllByRecursion HasFitAndShortTerms) }
+    {
+        let Some(rev) = self.held(id, buffer)? else {
+            return Ok(TripleTexts::new(self.alloc));
+        };
+        let version = version_in(&self.by_two, id);
+        meant_texts(self.alloc, Wanted { id, rev, version }, buffer.text())
     }
 }

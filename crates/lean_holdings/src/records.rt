@@ -4,13 +4,15 @@ ghost use Rattle.std.specs.Prelude.{◌≡◌, false, None, Some, IfOk, IfSome, 
 ghost use Rattle.std.specs.FinMap as map;
 ghost use Rattle.entity_state.specs.{Standing.standing_of, Table.has_room};
 ghost use Rattle.text_region.specs.Region.{bytes_of};
+ghost use Rattle.replay_model.specs.Versions.{version_at};
 ghost use Rattle.lean_holdings.specs.{Freeing.FreesPiece, Kept.held_with, Kept.kept_of, Kept.piece_at};
 
 use crate::kept::{LeanPage, held_of};
-use entity_model::EntityId;
+use entity_model::{EntityId, MappingVersion};
 use entity_state::{Held, Record, Standing, Table};
 use page_packing::{PackedPages, Unpacker};
 use rdf_term::OutOfMemory;
+use std::collections::BTreeSet;
 
 /// The revision that an entity holds, whose page is unpacked into a buffer.
 pub fn read_held(
@@ -59,6 +61,17 @@ fn held_revision(entity: &Record<LeanPage>) -> Option<u64>
     ensures { result ≡ (standing_of entity.now).held }
 {
     entity.held.as_ref().map(|held| held.revision)
+}
+
+/// By which version of the mapping an entity's page is mapped.
+pub fn version_in(by_two: &BTreeSet<EntityId>, id: EntityId) -> MappingVersion
+    ensures { result ≡ version_at by_two.now.keys id }
+{
+    if by_two.contains(&id) {
+        MappingVersion::Two
+    } else {
+        MappingVersion::One
+    }
 }
 
 /// Makes room for a record, so that the next one of the entity that is put takes no memory; none is taken where it has a record.
