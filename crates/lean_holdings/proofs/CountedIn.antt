@@ -1,10 +1,10 @@
 -- An entity that holds no page is counted in, or one can't be counted in.
-use Rattle.std.proofs.Common.{◌≡◌, ℕ, ◌+◌, ◌<◌, ◌≤◌, Bool, true, false, cond, List, [], Option, Some, None, is_some, length, refl, sym, ◌∙◌, ap, subst, true≢false, arith}
+use Rattle.std.proofs.Common.{◌≡◌, ℕ, ◌+◌, ◌<◌, ◌≤◌, Bool, true, false, cond, ◌||◌, List, [], ◌∷◌, ◌++◌, Option, Some, None, is_some, length, refl, sym, ◌∙◌, ap, subst, true≢false, arith}
 use Rattle.std.specs.FinMap as map
 use Rattle.std.specs.Ordering.{eq_by_cmp}
 use Rattle.std.proofs.lemmas.{List.length-map, List.Sums.count_by-le-length}
 use Rattle.sorted_sets.specs.{Counting.one_if, Rising.has}
-use Rattle.sorted_sets.proofs.Bools.{equal}
+use Rattle.sorted_sets.proofs.{Bools.equal, Rising.has-append}
 use Rattle.rdf_term.specs.{declared.triple.Triple.Triple, Order.triple_cmp}
 use Rattle.entity_model.specs.{declared.id.EntityId.EntityId, EntityId.entity_cmp, EntityId.entity_cmp_total, EntityId.entity_cmp_same}
 use Rattle.entity_state.specs.{declared.record.Held.Held, declared.record.Record.Record}
@@ -21,7 +21,7 @@ use Rattle.entity_counts.specs.Naming.{Naming, counted_in, is_counted}
 use Rattle.lean_holdings.specs.declared.kept.LeanPage.{LeanPage}
 use Rattle.lean_holdings.specs.{Going.CountsIn, Holding.IsKept, Holding.counted_by, InStep.AreHolders, InStep.AreInStep}
 use Rattle.lean_holdings.specs.Kept.{KeptRecords, held_with, kept_of, keys_held, record_with, seen}
-use Rattle.lean_holdings.proofs.{Going.goes_counted, Going.others_keyed, Seen.held_is, Values.values_keys}
+use Rattle.lean_holdings.proofs.{Going.goes_counted, Going.others_keyed, Naming.counted_more, Seen.held_is, Values.values_keys}
 
 -- ---- no page
 
@@ -110,6 +110,24 @@ countable m s pages names kept h n few t =
     omega (arith, count_by-le-length (λ entry. has triple_cmp t (triples_at stored entry)) (map.entries records), map.len-entries records) in
     let count : count_of (counts_in s) t ≡ owners triple_cmp stored records t = h.lean.counts t in
     omega arith
+
+-- ---- several entities
+
+later : (e h z : Bool) → (e || (h || z)) ≡ ((h || (e || false)) || z)
+later true true z = refl
+later true false z = refl
+later false true z = refl
+later false false z = refl
+
+-- one more of them is counted
+pub one_counted : (names names2 : Naming) (ids : List EntityId) (id x : EntityId) → has entity_cmp x (counted_by names2) ≡ (has entity_cmp x ids || has entity_cmp x (counted_by names))
+    → has entity_cmp x (counted_by (counted_in names2 id)) ≡ (has entity_cmp x (ids ++ id ∷ []) || has entity_cmp x (counted_by names))
+one_counted names names2 ids id x so =
+    let known : Bool = has entity_cmp x (counted_by names) in
+    counted_more names2 id x
+    ∙ ap (λ b. eq_by_cmp entity_cmp x id || b) so
+    ∙ later (eq_by_cmp entity_cmp x id) (has entity_cmp x ids) known
+    ∙ ap (λ b. b || known) (sym (has-append entity_cmp x ids (id ∷ [])))
 
 -- ---- by the versions of the mapping
 

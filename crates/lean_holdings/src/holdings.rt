@@ -1,16 +1,17 @@
 // What the entities hold, with the triples that two pages may share.
 
-ghost use Rattle.std.specs.Prelude.{◌≡◌, ◌<◌, ◌≤◌, [], false, None, Some, Err, IfOk, MatchOption, OnErr, OnOk};
+ghost use Rattle.std.specs.Prelude.{◌≡◌, ◌<◌, ◌≤◌, ◌||◌, [], false, true, None, Some, Err, IfOk, MatchOption, OnErr, OnOk};
 ghost use Rattle.std.specs.FinMap as map;
 ghost use Rattle.std.specs.List.{AllByRecursion};
-ghost use Rattle.sorted_sets.specs.Rising.{sorted};
+ghost use Rattle.sorted_sets.specs.Rising.{has, sorted};
 ghost use Rattle.rdf_term.specs.{Fit.HasFitAndShortTerms, Order.triple_cmp};
 ghost use Rattle.term_pool.specs.declared.fault.PoolFault.TheVariants.{Full};
 ghost use Rattle.entity_state.specs.Standing.{standing_of};
 ghost use Rattle.replay_model.specs.{Records.record_of, Versions.meaning_by};
 ghost use Rattle.fetched_pages.specs.Meaning.{meaning};
 ghost use Rattle.shared_triples.specs.Lean.{stored_of, triples_of};
-ghost use Rattle.entity_counts.specs.Naming.{counted_in};
+ghost use Rattle.entity_model.specs.{EntityId.entity_cmp, declared.id.EntityId.EntityId as TheId};
+ghost use Rattle.entity_counts.specs.Naming.{counted_in, pages_naming};
 ghost use Rattle.lean_holdings.specs.{Holding.counted_by, InStep.AreHolders, InStep.HasRoom, InStep.room_with};
 
 use crate::counting::{count_page, meant_texts};
@@ -175,6 +176,24 @@ impl LeanHoldings {
             Ok(()) => Ok(()),
             Err(fault) => Err(fault),
         }
+    }
+
+    /// Counts these entities, since another's page names them, as `count_in` does. After a fault some of them may be counted; everything else
+    /// is as it was.
+    pub fn count_all(&mut self, ids: &[EntityId], buffer: &mut Unpacker) -> Result<(), StoreFault>
+        ensures records { self.new.records ≡ self.old.records }
+        ensures by_two { self.new.by_two ≡ self.old.by_two }
+        ensures limit { self.new.limit ≡ self.old.limit }
+        ensures counted { OnOk result ((x : TheId) → has entity_cmp x (counted_by self.new.names)
+            ≡ (has entity_cmp x ids.now || has entity_cmp x (counted_by self.old.names))) }
+        ensures named { (x : TheId) → pages_naming self.new.names x ≡ pages_naming self.old.names x }
+        ensures more { (x : TheId) → has entity_cmp x (counted_by self.old.names) ≡ true →
+            has entity_cmp x (counted_by self.new.names) ≡ true }
+    {
+        for id in ids {
+            self.count_in(*id, buffer)?;
+        }
+        Ok(())
     }
 
     // The triples of the page that an entity holds, which is unpacked into a buffer: none where it holds none.

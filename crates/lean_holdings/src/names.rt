@@ -1,13 +1,15 @@
 // How many pages name an entity, where one page comes in the place of another.
 
-ghost use Rattle.std.specs.Prelude.{◌≡◌, ◌+◌, ◌<◌, true};
-ghost use Rattle.sorted_sets.specs.{Counting.one_if, Rising.IsRising, Rising.has};
+ghost use Rattle.std.specs.Prelude.{◌≡◌, ◌+◌, ◌<◌, true, IfOk};
+ghost use Rattle.sorted_sets.specs.{Counting.one_if, Rising.IsRising, Rising.has, Rising.sorted};
 ghost use Rattle.entity_model.specs.{EntityId.entity_cmp, declared.id.EntityId.EntityId as TheId};
 ghost use Rattle.entity_counts.specs.Naming.{pages_naming};
 ghost use Rattle.lean_holdings.specs.Holding.{counted_by};
 
 use entity_counts::EntityCounts;
 use entity_model::EntityId;
+use rdf_term::OutOfMemory;
+use std::alloc::Global;
 
 /// A page that names some entities goes, and one that names others comes; each list rises. It takes no memory.
 pub fn move_names(names: &mut EntityCounts, gone: &[EntityId], come: &[EntityId])
@@ -22,4 +24,15 @@ pub fn move_names(names: &mut EntityCounts, gone: &[EntityId], come: &[EntityId]
 {
     names.raise(come);
     names.lower(gone);
+}
+
+/// The entities in rising order, each once.
+pub fn in_order(alloc: Global, ids: &[EntityId]) -> Result<Vec<EntityId>, OutOfMemory>
+    ensures { IfOk result (λ ordered. ordered.items ≡ sorted entity_cmp ids.now) }
+{
+    let mut ordered = Vec::new(alloc);
+    ordered.extend_from_slice(ids)?;
+    ordered.sort_unstable();
+    ordered.dedup();
+    Ok(ordered)
 }
