@@ -5,6 +5,7 @@ pub mod Lasting
 pub mod Moved
 pub mod Naming
 pub mod Pieces
+pub mod Putting
 pub mod Rooming
 pub mod Seen
 pub mod Starting
