@@ -7,18 +7,15 @@ use Rattle.sorted_sets.specs.{Counting.one_if, Rising.has}
 use Rattle.sorted_sets.proofs.{Bools.equal, Rising.has-append}
 use Rattle.rdf_term.specs.{declared.triple.Triple.Triple, Order.triple_cmp}
 use Rattle.entity_model.specs.{declared.id.EntityId.EntityId, EntityId.entity_cmp, EntityId.entity_cmp_total, EntityId.entity_cmp_same}
-use Rattle.entity_state.specs.{declared.record.Held.Held, declared.record.Record.Record}
 use Rattle.text_region.specs.{Region.Texts, Region.bytes_of}
-use Rattle.slot_keys.specs.declared.key.Key.{Key}
 use Rattle.triple_catalog.specs.Counts.{Counts, count_of}
-use Rattle.triple_store.specs.StoreState.{AreKeysOf, HasKey, IsSound, KeepsKeys, StoreState, counts_in, is_key}
+use Rattle.triple_store.specs.StoreState.{AreKeysOf, HasKey, IsSound, KeepsKeys, StoreState, counts_in}
 use Rattle.triple_store.specs.Updates.{AreStored}
-use Rattle.replay_model.specs.{Records.Bytes, Records.Records, Records.record_of, Union.Meaning, Union.owners, Union.triples_at, Union.triples_held}
+use Rattle.replay_model.specs.{Records.Records, Records.record_of, Union.Meaning, Union.owners, Union.triples_at, Union.triples_held}
 use Rattle.replay_model.specs.Versions.{meaning_by}
 use Rattle.fetched_pages.specs.Meaning.{meaning}
 use Rattle.shared_triples.specs.Lean.{IsLean, count_in, stored_of, triples_of}
 use Rattle.entity_counts.specs.Naming.{Naming, counted_in, is_counted}
-use Rattle.lean_holdings.specs.declared.kept.LeanPage.{LeanPage}
 use Rattle.lean_holdings.specs.{Going.CountsIn, Holding.IsKept, Holding.counted_by, InStep.AreHolders, InStep.AreInStep}
 use Rattle.lean_holdings.specs.Kept.{KeptRecords, held_with, kept_of, keys_held, record_with, seen}
 use Rattle.lean_holdings.proofs.{Going.goes_counted, Going.others_keyed, Naming.counted_more, Seen.held_is, Values.values_keys}

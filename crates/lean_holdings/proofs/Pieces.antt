@@ -1,11 +1,10 @@
 -- Each page that is held keeps a piece of its own where another page comes or goes.
-use Rattle.std.proofs.Common.{◌≡◌, ◌≢◌, ◌⊎◌, inl, inr, true, Option, Some, None, is_some, refl, sym, ◌∙◌, ap, true≢false, ⊎_elim}
+use Rattle.std.proofs.Common.{◌≡◌, ◌≢◌, ◌⊎◌, inl, inr, true, Option, Some, None, is_some, sym, ◌∙◌, ap, true≢false, ⊎_elim}
 use Rattle.std.specs.FinMap as map
 use Rattle.entity_model.specs.declared.id.EntityId.{EntityId}
 use Rattle.entity_state.specs.declared.record.Record.{Record}
-use Rattle.text_region.specs.{declared.piece.Piece.Piece, Region.Texts, Region.Updates, Region.bytes_of}
+use Rattle.text_region.specs.{declared.piece.Piece.Piece, Region.Texts, Region.bytes_of}
 use Rattle.text_region.proofs.Pieces.{piece_tells}
-use Rattle.replay_model.specs.Records.{Bytes}
 use Rattle.shared_triples.proofs.Holding.{id_tells}
 use Rattle.lean_holdings.specs.declared.kept.LeanPage.{LeanPage}
 use Rattle.lean_holdings.specs.{Freeing.FreesPiece, Holding.HavePieces}

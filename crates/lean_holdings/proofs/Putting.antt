@@ -7,7 +7,6 @@ use Rattle.rdf_term.specs.{declared.triple.Triple.Triple, Order.triple_cmp, Orde
 use Rattle.entity_model.specs.{declared.id.EntityId.EntityId, declared.event.Event.Event, EntityId.entity_cmp}
 use Rattle.entity_state.specs.{declared.state.State.State, declared.record.Held.Held, declared.record.Record.Record}
 use Rattle.text_region.specs.{declared.piece.Piece.Piece, Region.Texts, Region.Updates, Region.bytes_of}
-use Rattle.slot_keys.specs.declared.keys.Keys.{Keys}
 use Rattle.triple_catalog.specs.Counts.{Exchanges, count_of}
 use Rattle.triple_store.specs.StoreState.{AreKeysOf, IsSound, KeepsKeys, StoreState, counts_in}
 use Rattle.replay_model.specs.{Records.Bytes, Union.Meaning, Union.triples_held}
@@ -15,7 +14,7 @@ use Rattle.shared_triples.specs.Lean.{AreCounted, stored_of, strangers, triples_
 use Rattle.entity_counts.specs.Naming.{Naming, pages_naming}
 use Rattle.lean_holdings.specs.declared.kept.LeanPage.{LeanPage}
 use Rattle.lean_holdings.specs.{Freeing.FreesPiece, Going.PutsIn, Holding.IsKept, Holding.counted_by}
-use Rattle.lean_holdings.specs.Kept.{KeptRecords, held_with, kept_of, keys_held, piece_at, piece_held, record_with, seen}
+use Rattle.lean_holdings.specs.Kept.{KeptRecords, held_with, kept_of, keys_held, piece_at, piece_held, seen}
 use Rattle.lean_holdings.proofs.{Going.goes_in, Lasting.keys_same, Pieces.new_text, Pieces.pieces_come, Pieces.texts_stay, Seen.seen_moved}
 
 -- the entities that what is held names go by the entities that were named

@@ -178,8 +178,8 @@ impl LeanHoldings {
         }
     }
 
-    /// Counts these entities, since another's page names them, as `count_in` does. After a fault some of them may be counted; everything else
-    /// is as it was.
+    /// Counts these entities, since another's page names them, as `count_in` does. After a fault some of them may be counted; everything
+    /// else is as it was.
     pub fn count_all(&mut self, ids: &[EntityId], buffer: &mut Unpacker) -> Result<(), StoreFault>
         ensures records { self.new.records ≡ self.old.records }
         ensures by_two { self.new.by_two ≡ self.old.by_two }

@@ -1,8 +1,9 @@
 //! What the entities hold, where only the triples that two pages may share are stored, and the pages are kept packed.
 //!
 //! `holdings` has the records, the packed pages, the store, and how many pages name each entity; `kept` what is kept of a page, and
-//! `records` how it is read and put. `storing` stores all of a page whose entity is to be counted. `laws` says that all of it stays in step
-//! where an entity is counted in, and where a record is put in.
+//! `records` how it is read and put. `storing` stores all of a page whose entity is to be counted, and `counting` counts the entity with
+//! it; `names` moves the names of entities from a page to the one in its place. `laws` says that all of it stays in step where an entity is
+//! counted in, and where a record is put in.
 #![tactic(auto)]
 
 mod counting;

@@ -1,5 +1,5 @@
 -- Each list has an entity once.
-use Rattle.std.proofs.Common.{sym, ◌∙◌}
+use Rattle.std.proofs.Common.{◌∙◌}
 use Rattle.std.specs.FinMap as map
 use Rattle.lean_holdings.proofs.Moved.{counted_same, few_more, names_move}
 use Rattle.lean_holdings.proofs.names.move_names.Goals as goal

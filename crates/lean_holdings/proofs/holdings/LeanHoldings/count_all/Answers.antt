@@ -1,8 +1,8 @@
 -- One more entity is counted.
-use Rattle.std.proofs.Common.{◌≡◌, ◌||◌, true, sym, ◌∙◌, ap, subst, take, add-one}
+use Rattle.std.proofs.Common.{◌||◌, sym, ◌∙◌, ap, take, add-one}
 use Rattle.std.proofs.Math.Seq.{take-suc}
 use Rattle.sorted_sets.specs.Rising.{has}
-use Rattle.entity_model.specs.{EntityId.entity_cmp, declared.id.EntityId.EntityId}
+use Rattle.entity_model.specs.{EntityId.entity_cmp}
 use Rattle.entity_counts.specs.Naming.{Naming, pages_naming}
 use Rattle.lean_holdings.specs.Holding.{counted_by}
 use Rattle.lean_holdings.proofs.{CountedIn.one_counted, Naming.named_alike}

@@ -1,5 +1,5 @@
 -- The entity is counted with all of its page, or all is as it was.
-use Rattle.std.proofs.Common.{◌≡◌, ℕ, ◌<◌, Err, refl, sym, ap, subst, ◌∙◌, arith}
+use Rattle.std.proofs.Common.{◌≡◌, ◌<◌, Err, sym, ap, subst, ◌∙◌, arith}
 use Rattle.std.specs.FinMap as map
 use Rattle.sorted_sets.specs.Rising.{has}
 use Rattle.sorted_sets.proofs.Rising.{has-sorted}
@@ -9,8 +9,8 @@ use Rattle.triple_catalog.specs.Room.{room_for}
 use Rattle.triple_store.specs.StoreState.{counts_in, limit_of}
 use Rattle.replay_model.specs.{Records.Records, Union.Meaning, Versions.meaning_by}
 use Rattle.fetched_pages.specs.Meaning.{meaning}
-use Rattle.shared_triples.specs.Lean.{stored_of, triples_of}
-use Rattle.lean_holdings.specs.{Holding.counted_by, InStep.room_with, Kept.seen}
+use Rattle.shared_triples.specs.Lean.{triples_of}
+use Rattle.lean_holdings.specs.{Holding.counted_by, Kept.seen}
 use Rattle.lean_holdings.proofs.CountedIn.{countable, counted_step, refused_step}
 use Rattle.lean_holdings.proofs.Rooming.{room_more}
 use Rattle.lean_holdings.proofs.holdings.LeanHoldings.count_in.Goals.{Joined-counted, in-Ok-counted, in-Err}
