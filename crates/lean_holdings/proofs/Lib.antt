@@ -10,4 +10,5 @@ pub mod Rooming
 pub mod Seen
 pub mod Starting
 pub mod Staying
+pub mod Strange
 pub mod Values

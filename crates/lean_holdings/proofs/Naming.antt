@@ -28,7 +28,7 @@ shift false false n k more fewer same = ap (λ v. v + 0) (same refl refl)
 
 module _ (named : Meaning EntityId) where
   -- an entity whose record is put in names by its new page and no longer by its old one
-  moved : (records : Records) (x : EntityId) (r : Record Bytes) (y : EntityId)
+  pub moved : (records : Records) (x : EntityId) (r : Record Bytes) (y : EntityId)
       → owners entity_cmp named (map.insert records x r) y + one_if (has entity_cmp y (triples_held named x (record_of records x).held))
       ≡ owners entity_cmp named records y + one_if (has entity_cmp y (triples_held named x r.held))
   moved records x r y =
