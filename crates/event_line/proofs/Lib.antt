@@ -6,3 +6,4 @@ pub mod Shapes
 pub mod TimeLemmas
 pub mod TimeDigits
 pub mod TimeReading
+pub mod Refused

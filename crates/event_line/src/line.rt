@@ -2,7 +2,7 @@
 
 ghost use Rattle.std.specs.Prelude.{◌≡◌, ◌⊎◌, None, Some, MatchResult, IfOk};
 ghost use Rattle.serde_json.specs.{Data.string, View.view};
-ghost use Rattle.event_line.specs.Line.{Answers, AnswersPart, data_of, delivery_in, else_cause, event_in, watermark_in, ask_in, mapping_in, match_in, version_of, pattern_of, pattern_with, term_wanted_by, kind_named, kind_name, entity_of, rev_of, time_at, whole_kind};
+ghost use Rattle.event_line.specs.Line.{Answers, AnswersPart, data_of, delivered, delivery_in, else_cause, event_in, watermark_in, ask_in, mapping_in, match_in, version_of, pattern_of, pattern_with, term_wanted_by, kind_named, kind_name, entity_of, rev_of, time_at, whole_kind};
 ghost use Rattle.event_line.specs.declared.faults.DeliveryFault.TheVariants.{Bad as Refused, OutOfMemory as DeliveryOutOfMemory};
 ghost use Rattle.event_line.specs.declared.faults.LineCause.TheVariants.{NotJson as NoJson};
 
@@ -49,7 +49,9 @@ pub fn delivery(alloc: Global, line: &[u8]) -> Result<Delivery, DeliveryFault>
         return Ok(Delivery::Ask(pattern_with(alloc, texts)?));
     }
     let value = read_value(alloc, line)?;
-    delivery_in(alloc, &value)
+    let delivered = delivery_in(alloc, &value);
+    drop(value);
+    delivered
 }
 
 /// The JSON value of a line.
@@ -80,12 +82,22 @@ fn delivery_in(alloc: Global, value: &Value) -> Result<Delivery, DeliveryFault>
         value.get("mapping"),
         value.get("match"),
     ) {
-        (Some(_), None, None, None, None) => Ok(Delivery::Event(event(value)?)),
-        (None, Some(_), None, None, None) => Ok(watermark(value)?),
+        (Some(_), None, None, None, None) => event_delivery(value),
+        (None, Some(_), None, None, None) => watermark(value),
         (None, None, Some(wanted), None, None) => ask(alloc, wanted),
-        (None, None, None, Some(number), None) => Ok(mapping(number)?),
+        (None, None, None, Some(number), None) => mapping(number),
         (None, None, None, None, Some(shapes)) => matching(alloc, shapes),
         _ => Err(DeliveryFault::Bad(LineCause::NoForm)),
+    }
+}
+
+/// The event that an object with `kind` is, delivered.
+fn event_delivery(object: &Value) -> Result<Delivery, DeliveryFault>
+    ensures { AnswersPart (delivered (event_in (view object.now))) result }
+{
+    match event(object) {
+        Ok(event) => Ok(Delivery::Event(event)),
+        Err(cause) => Err(DeliveryFault::Bad(cause)),
     }
 }
 
@@ -107,11 +119,13 @@ fn event(object: &Value) -> Result<Event, LineCause>
 }
 
 /// The watermark that an object with `watermark` is.
-fn watermark(object: &Value) -> Result<Delivery, LineCause>
-    ensures { result ≡ watermark_in (view object.now) }
+fn watermark(object: &Value) -> Result<Delivery, DeliveryFault>
+    ensures { AnswersPart (watermark_in (view object.now)) result }
 {
-    let time = time_at(object, "watermark").ok_or(LineCause::Time)?;
-    Ok(Delivery::Watermark(time))
+    match time_at(object, "watermark") {
+        Some(time) => Ok(Delivery::Watermark(time)),
+        None => Err(DeliveryFault::Bad(LineCause::Time)),
+    }
 }
 
 /// The question with that value of `ask`.
@@ -122,11 +136,13 @@ fn ask(alloc: Global, value: &Value) -> Result<Delivery, DeliveryFault>
 }
 
 /// The change to the version with that value of `mapping`.
-fn mapping(value: &Value) -> Result<Delivery, LineCause>
-    ensures { result ≡ mapping_in (view value.now) }
+fn mapping(value: &Value) -> Result<Delivery, DeliveryFault>
+    ensures { AnswersPart (mapping_in (view value.now)) result }
 {
-    let version = version(value).ok_or(LineCause::Mapping)?;
-    Ok(Delivery::Mapping(version))
+    match version(value) {
+        Some(version) => Ok(Delivery::Mapping(version)),
+        None => Err(DeliveryFault::Bad(LineCause::Mapping)),
+    }
 }
 
 /// The question with that value of `match`.
@@ -148,17 +164,33 @@ fn version(value: &Value) -> Option<MappingVersion>
 }
 
 /// The pattern that a value is: a list of exactly three values.
-#[tactic(auto, using(crate::proofs::Places::pattern_of_other))]
 fn pattern(alloc: Global, value: &Value) -> Result<Pattern, DeliveryFault>
     ensures { AnswersPart (else_cause LineCause.Pattern (pattern_of (view value.now)) Ok) result }
 {
     match value.as_array().ok_or(LineCause::Pattern)?.as_slice() {
-        [subject, predicate, object] => pattern_with(
+        [subject, predicate, object] => pattern_in(alloc, subject, predicate, object),
+        _ => Err(DeliveryFault::Bad(LineCause::Pattern)),
+    }
+}
+
+/// The pattern of three values, of which each is a text.
+#[tactic(auto, using(crate::proofs::Places::no_subject, crate::proofs::Places::no_predicate, crate::proofs::Places::no_object))]
+fn pattern_in(
+    alloc: Global,
+    subject: &Value,
+    predicate: &Value,
+    object: &Value,
+) -> Result<Pattern, DeliveryFault>
+    ensures { AnswersPart (else_cause LineCause.Pattern
+        (pattern_with (view subject.now) (view predicate.now) (view object.now)) Ok) result }
+{
+    match (subject.as_str(), predicate.as_str(), object.as_str()) {
+        (Some(subject), Some(predicate), Some(object)) => pattern_with(
             alloc,
             AskTexts {
-                subject: subject.as_str().ok_or(LineCause::Pattern)?,
-                predicate: predicate.as_str().ok_or(LineCause::Pattern)?,
-                object: object.as_str().ok_or(LineCause::Pattern)?,
+                subject,
+                predicate,
+                object,
             },
         ),
         _ => Err(DeliveryFault::Bad(LineCause::Pattern)),

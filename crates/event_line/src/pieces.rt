@@ -2,7 +2,7 @@
 //
 // Spaces may stand before a token, but not before a comma or a colon. What isn't in this form gives none.
 
-ghost use Rattle.std.specs.Prelude.{◌≡◌, ◌≢◌, ◌≤◌, ◌<◌, ◌^◌, ◌++◌, ℕ, List, IfSome, MatchOption, decimal, length, not, position, take, true};
+ghost use Rattle.std.specs.Prelude.{◌≡◌, ◌≢◌, ◌≤◌, ◌<◌, ◌^◌, ◌∷◌, ◌++◌, ℕ, List, IfSome, MatchOption, decimal, length, not, position, take, true};
 ghost use Rattle.std.specs.{List.list_all, Str.IsUtf8};
 ghost use Rattle.event_line.specs.Pieces.{Begins, Closes, HasKey, HasNumber, HasNumberMember, HasText, HasTextMember, is_plain, past_spaces};
 
@@ -42,8 +42,15 @@ pub(crate) fn number_member<'a>(mark: u8, key: &[u8], bytes: &'a [u8]) -> Option
 pub(crate) fn behind_key<'a>(mark: u8, key: &[u8], bytes: &'a [u8]) -> Option<&'a [u8]>
     ensures { IfSome result (λ rest. HasKey mark key.now bytes.now rest.now) }
 {
+    behind(key, behind_mark(mark, bytes)?)
+}
+
+// What stands behind a mark.
+pub(crate) fn behind_mark(mark: u8, bytes: &[u8]) -> Option<&[u8]>
+    ensures { IfSome result (λ rest. bytes.now ≡ mark ∷ rest.now) }
+{
     match bytes {
-        [first, inner @ ..] if *first == mark => behind(key, inner),
+        [first, rest @ ..] if *first == mark => Some(rest),
         _ => None,
     }
 }
@@ -54,14 +61,10 @@ pub(crate) fn text(bytes: &[u8]) -> Option<TextPiece<'_>>
 {
     let inner = behind(b"\"", bytes)?;
     let end = plain_end(inner)?;
-    let (content, rest) = inner.split_at(end);
-    match rest {
-        [b'"', rest @ ..] => Some(TextPiece {
-            text: utf8(content)?,
-            rest,
-        }),
-        _ => None,
-    }
+    let (content, after) = inner.split_at(end);
+    let rest = behind_mark(b'"', after)?;
+    let text = utf8(content)?;
+    Some(TextPiece { text, rest })
 }
 
 // The number from 1 that stands there.

@@ -10,7 +10,9 @@ ghost use Rattle.serde_json.specs.Data.{Data};
 ghost use Rattle.event_line.specs.{Line.data_of, Line.delivery_in, Line.delivery_of, Line.whole_kind, Pieces.HasNextText, Plain.ask_data, Plain.event_data};
 
 use crate::line::{KindName, kind_named};
-use crate::pieces::{TextPiece, behind, behind_key, closes, number_member, text, text_member};
+use crate::pieces::{
+    TextPiece, behind, behind_key, behind_mark, closes, number_member, text, text_member,
+};
 use crate::time;
 use entity_model::{EntityId, Event, Kind};
 
@@ -100,8 +102,5 @@ pub(crate) fn ask_texts(line: &[u8]) -> Option<AskTexts<'_>>
 fn next_text(bytes: &[u8]) -> Option<TextPiece<'_>>
     ensures { IfSome result (λ piece. HasNextText piece.text.now bytes.now piece.rest.now) }
 {
-    match bytes {
-        [b',', rest @ ..] => text(rest),
-        _ => None,
-    }
+    text(behind_mark(b',', bytes)?)
 }
