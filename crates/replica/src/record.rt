@@ -47,7 +47,6 @@ fn write_head(alloc: Global, item: &PatchRecord, out: &mut Vec<u8>) -> Result<()
 }
 
 // Appends the lines of the triples.
-#[tactic(auto, using(rdf_term::proofs::Appending::still_front))]
 fn write_triples(triples: &[Triple], out: &mut Vec<u8>) -> Result<(), OutOfMemory>
     ensures { Appends out.old.items out.new.items (flat_map triple_text triples.now) result }
 {
