@@ -33,7 +33,7 @@ fn put_line(alloc: Global, line: &Line, object: &mut Map<String, Value>) -> Resu
         Line::Remembered(event) => put_event(alloc, event, object),
         Line::Entity(id, record) => put_record(alloc, *id, record, object),
         Line::Side(entry) => put_entry(alloc, entry, object),
-        Line::End(lines) => Ok(serde_json::put(object, alloc, "end", Value::from(*lines))?),
+        Line::End(lines) => put_number(alloc, "end", *lines, object),
     }
 }
 
@@ -44,14 +44,38 @@ fn put_head(alloc: Global, head: &Head, object: &mut Map<String, Value>) -> Resu
 {
     let counts = head.counts;
     let mapping = version_number(head.mapping);
-    serde_json::put(object, alloc, "asks", Value::from(counts.asks))?;
-    serde_json::put(object, alloc, "horizon", nat_or_null(head.horizon))?;
-    serde_json::put(object, alloc, "lines", Value::from(counts.lines))?;
-    serde_json::put(object, alloc, "mapping", Value::from(mapping))?;
-    serde_json::put(object, alloc, "mark", int_or_null(head.mark))?;
-    serde_json::put(object, alloc, "matches", Value::from(counts.matches))?;
-    serde_json::put(object, alloc, "patches", Value::from(counts.patches))?;
-    Ok(serde_json::put(object, alloc, "snapshot", Value::from(3u64))?)
+    put_number(alloc, "asks", counts.asks, object)?;
+    put_value(alloc, "horizon", nat_or_null(head.horizon), object)?;
+    put_number(alloc, "lines", counts.lines, object)?;
+    put_number(alloc, "mapping", mapping, object)?;
+    put_value(alloc, "mark", int_or_null(head.mark), object)?;
+    put_number(alloc, "matches", counts.matches, object)?;
+    put_number(alloc, "patches", counts.patches, object)?;
+    put_number(alloc, "snapshot", 3, object)
+}
+
+// Puts a member whose value is a number.
+fn put_number(
+    alloc: Global,
+    key: &str,
+    number: u64,
+    object: &mut Map<String, Value>,
+) -> Result<(), OutOfMemory>
+    ensures { OnOk result (members_view object.new.entries ≡ with_member key.now (nat_data number) (members_view object.old.entries)) }
+{
+    put_value(alloc, key, Value::from(number), object)
+}
+
+// Puts a member.
+fn put_value(
+    alloc: Global,
+    key: &str,
+    value: Value,
+    object: &mut Map<String, Value>,
+) -> Result<(), OutOfMemory>
+    ensures { OnOk result (members_view object.new.entries ≡ with_member key.now (view value) (members_view object.old.entries)) }
+{
+    Ok(serde_json::put(object, alloc, key, value)?)
 }
 
 // The value of a number, or null.
@@ -96,10 +120,10 @@ fn put_record(
 {
     put_id(alloc, id, object)?;
     let held = held_or_null(alloc, &kept.held)?;
-    serde_json::put(object, alloc, "held", held)?;
+    put_value(alloc, "held", held, object)?;
     let reconciled = event_or_null(alloc, kept.reconciled)?;
-    serde_json::put(object, alloc, "reconciled", reconciled)?;
-    serde_json::put(object, alloc, "rev", Value::from(kept.state.rev))?;
+    put_value(alloc, "reconciled", reconciled, object)?;
+    put_number(alloc, "rev", kept.state.rev, object)?;
     put_text(alloc, "state", mode_word(kept.state.mode), object)
 }
 
@@ -108,7 +132,7 @@ fn put_id(alloc: Global, id: EntityId, object: &mut Map<String, Value>) -> Resul
     ensures { OnOk result (members_view object.new.entries ≡ with_member (codes "entity") (string (id_text id)) (members_view object.old.entries)) }
 {
     let text = id.text(alloc)?.into_string();
-    Ok(serde_json::put(object, alloc, "entity", Value::from(text))?)
+    put_value(alloc, "entity", Value::from(text), object)
 }
 
 // Puts a member whose value is a text.
@@ -121,7 +145,7 @@ fn put_text(
     ensures { OnOk result (members_view object.new.entries ≡ with_member key.now (string text.now) (members_view object.old.entries)) }
 {
     let text = Value::try_from_str(alloc, text)?;
-    Ok(serde_json::put(object, alloc, key, text)?)
+    put_value(alloc, key, text, object)
 }
 
 // The value of what is held, or null.
@@ -156,7 +180,7 @@ fn put_held(
     if has_line_feed(page) {
         put_text(alloc, "page", page, object)?;
     }
-    Ok(serde_json::put(object, alloc, "rev", Value::from(held.revision))?)
+    put_number(alloc, "rev", held.revision, object)
 }
 
 /// Whether a page has a line feed, so that it can't stand in a line as it is.
@@ -189,7 +213,7 @@ fn put_entry(
         Entry::Late(event) => put_told(alloc, "late", event, object),
         Entry::Revision(event, rev, cause) => {
             put_told(alloc, cause_word(*cause), event, object)?;
-            Ok(serde_json::put(object, alloc, "rev", Value::from(*rev))?)
+            put_number(alloc, "rev", *rev, object)
         }
     }
 }
@@ -206,7 +230,7 @@ fn put_told(
 {
     put_text(alloc, "entry", word, object)?;
     let event = event_value(alloc, event)?;
-    Ok(serde_json::put(object, alloc, "event", event)?)
+    put_value(alloc, "event", event, object)
 }
 
 // The value of an event.
@@ -229,8 +253,8 @@ fn put_event(
 {
     put_id(alloc, event.entity, object)?;
     put_text(alloc, "kind", kind_word(event.kind), object)?;
-    serde_json::put(object, alloc, "micros", Value::from(event.time))?;
-    Ok(serde_json::put(object, alloc, "rev", Value::from(event.rev))?)
+    put_value(alloc, "micros", Value::from(event.time), object)?;
+    put_number(alloc, "rev", event.rev, object)
 }
 
 // The word for whether a page is there.
