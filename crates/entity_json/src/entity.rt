@@ -19,13 +19,12 @@ use std::alloc::Global;
 fn kind_of_type(name: &str) -> Option<IdKind>
     ensures { result ≡ kind_of_type name.now }
 {
-    if name == "item" {
-        return Some(IdKind::Q);
+    match name {
+        "item" => Some(IdKind::Q),
+        "property" => Some(IdKind::P),
+        "lexeme" => Some(IdKind::L),
+        _ => None,
     }
-    if name == "property" {
-        return Some(IdKind::P);
-    }
-    (name == "lexeme").then_some(IdKind::L)
 }
 
 // The kind of the entity whose page it is.

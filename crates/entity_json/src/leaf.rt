@@ -60,7 +60,10 @@ pub fn list_of<'m, 'b, 'a>(json: &'m Json<'b, 'a>) -> Result<&'m [Json<'b, 'a>],
 pub fn text_at<'m>(json: &'m Json<'_, '_>, name: &str) -> Result<&'m str, PartFault>
     ensures { FindsBy (λ text. text.now) result (text_at name.now (json_view json.now)) }
 {
-    text_of(member_at(json, name)?)
+    match json.get(name) {
+        Some(value) => text_of(value),
+        None => Err(PartFault::Shape),
+    }
 }
 
 // A copy of the member with the name that is a text.
@@ -71,7 +74,10 @@ pub fn copy_text_at<'a>(
 ) -> Result<CowText<'a>, PartFault>
     ensures { Finds result (text_at name.now (json_view json.now)) }
 {
-    copy_text(alloc, member_at(json, name)?)
+    match json.get(name) {
+        Some(value) => copy_text(alloc, value),
+        None => Err(PartFault::Shape),
+    }
 }
 
 // A number, as it is spelled.
@@ -88,7 +94,10 @@ pub fn number_of<'a>(json: &Json<'_, 'a>) -> Result<&'a str, PartFault>
 pub fn number_at<'a>(json: &Json<'_, 'a>, name: &str) -> Result<&'a str, PartFault>
     ensures { FindsBy (λ text. text.now) result (number_at name.now (json_view json.now)) }
 {
-    number_of(member_at(json, name)?)
+    match json.get(name) {
+        Some(value) => number_of(value),
+        None => Err(PartFault::Shape),
+    }
 }
 
 // A copy of the member with the name that is a text and may be missing.

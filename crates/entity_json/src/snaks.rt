@@ -57,17 +57,12 @@ fn datatype_of<'a>(alloc: Global, json: &Json<'_, 'a>) -> Result<CowText<'a>, Pa
 fn snak_content<'a>(alloc: Global, json: &Json<'_, 'a>) -> Result<Content<'a>, PartFault>
     ensures { Finds result (snak_content (json_view json.now)) }
 {
-    let named = text_at(json, "snaktype")?;
-    if named == "value" {
-        return value_of(alloc, member_at(json, "datavalue")?).map(Content::Value);
+    match text_at(json, "snaktype")? {
+        "value" => value_of(alloc, member_at(json, "datavalue")?).map(Content::Value),
+        "novalue" => Ok(Content::NoValue),
+        "somevalue" => Ok(Content::SomeValue),
+        _ => Err(PartFault::Shape),
     }
-    if named == "novalue" {
-        return Ok(Content::NoValue);
-    }
-    if named == "somevalue" {
-        return Ok(Content::SomeValue);
-    }
-    Err(PartFault::Shape)
 }
 
 // An index in the width that a snak has. A list with greater indices wouldn't fit into memory.
@@ -96,13 +91,18 @@ pub fn snak_of<'a>(
     }
     let place = small_place(place)?;
     let datatype = datatype_of(alloc, json)?;
-    let content = snak_content(alloc, json)?;
-    Ok(Snak {
-        property,
-        place,
-        datatype,
-        content,
-    })
+    match snak_content(alloc, json) {
+        Ok(content) => Ok(Snak {
+            property,
+            place,
+            datatype,
+            content,
+        }),
+        Err(fault) => {
+            drop(datatype);
+            Err(fault)
+        }
+    }
 }
 
 // Reads the snaks of a property, whose id is the key.

@@ -20,13 +20,12 @@ use std::alloc::Global;
 fn rank_named(name: &str) -> Option<Rank>
     ensures { result ≡ rank_named name.now }
 {
-    if name == "preferred" {
-        return Some(Rank::Preferred);
+    match name {
+        "preferred" => Some(Rank::Preferred),
+        "normal" => Some(Rank::Normal),
+        "deprecated" => Some(Rank::Deprecated),
+        _ => None,
     }
-    if name == "normal" {
-        return Some(Rank::Normal);
-    }
-    (name == "deprecated").then_some(Rank::Deprecated)
 }
 
 // Whether the text is 1 to 64 ASCII letters and digits.
@@ -46,8 +45,13 @@ fn reference_of<'a>(alloc: Global, json: &Json<'_, 'a>) -> Result<Reference<'a>,
         return Err(PartFault::Shape);
     }
     let hash = copy_text_at(alloc, json, "hash")?;
-    let snaks = snaks_at(alloc, json, "snaks")?;
-    Ok(Reference { hash, snaks })
+    match snaks_at(alloc, json, "snaks") {
+        Ok(snaks) => Ok(Reference { hash, snaks }),
+        Err(fault) => {
+            drop(hash);
+            Err(fault)
+        }
+    }
 }
 
 struct ReferenceReader;
@@ -129,17 +133,37 @@ fn statement_of<'a>(
 {
     let rank = rank_of(json)?;
     let id = statement_id(alloc, json)?;
-    let qualifiers = snaks_at(alloc, json, "qualifiers")?;
-    let references = references_at(alloc, json, "references")?;
-    let main = main_of(alloc, key, property, json)?;
-    Ok(Statement {
-        id,
-        property,
-        rank,
-        main,
-        qualifiers,
-        references,
-    })
+    let qualifiers = match snaks_at(alloc, json, "qualifiers") {
+        Ok(qualifiers) => qualifiers,
+        Err(fault) => {
+            drop(id);
+            return Err(fault);
+        }
+    };
+    let references = match references_at(alloc, json, "references") {
+        Ok(references) => references,
+        Err(fault) => {
+            drop(qualifiers);
+            drop(id);
+            return Err(fault);
+        }
+    };
+    match main_of(alloc, key, property, json) {
+        Ok(main) => Ok(Statement {
+            id,
+            property,
+            rank,
+            main,
+            qualifiers,
+            references,
+        }),
+        Err(fault) => {
+            drop(references);
+            drop(qualifiers);
+            drop(id);
+            Err(fault)
+        }
+    }
 }
 
 // Reads the statements of a property, whose id is the key.

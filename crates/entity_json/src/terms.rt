@@ -24,8 +24,13 @@ pub fn tagged_under<'a>(
     ensures { Finds result (tagged_under name.now (json_view json.now)) }
 {
     let language = copy_text_at(alloc, json, "language")?;
-    let text = copy_text_at(alloc, json, name)?;
-    Ok(Tagged { text, language })
+    match copy_text_at(alloc, json, name) {
+        Ok(text) => Ok(Tagged { text, language }),
+        Err(fault) => {
+            drop(language);
+            Err(fault)
+        }
+    }
 }
 
 struct LabelReader;

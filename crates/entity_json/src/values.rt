@@ -1,10 +1,10 @@
 // Data values, by their type.
 
-ghost use Rattle.std.specs.Prelude.{◌≡◌, ◌==◌, ◌||◌};
+ghost use Rattle.std.specs.Prelude.{◌≡◌, ◌==◌, ◌||◌, [], ◌∷◌};
 ghost use Rattle.std.specs.{Char.is_ascii_alphanumeric, List.list_all};
 ghost use Rattle.json_spell.specs.View.{json_view};
 ghost use Rattle.entity_model.specs.Value.{is_entity_text};
-ghost use Rattle.entity_json.specs.Finds.{Finds};
+ghost use Rattle.entity_json.specs.{Finds.Finds, Values.numbered_letter};
 ghost use Rattle.entity_json.specs.Reading.Values.{numbered_type, numeric_id, numbered_entity, entity_value, time_of, quantity_of, globe_of, value_of_parts, value_of_type, value_of};
 
 use crate::leaf::{
@@ -32,10 +32,11 @@ pub enum NumberedType {
 fn numbered_type(word: &str) -> Option<NumberedType>
     ensures { result ≡ numbered_type word.now }
 {
-    if word == "item" {
-        return Some(NumberedType::Item);
+    match word {
+        "item" => Some(NumberedType::Item),
+        "property" => Some(NumberedType::Property),
+        _ => None,
     }
-    (word == "property").then_some(NumberedType::Property)
 }
 
 // Whether the bytes are ASCII letters, digits and dashes.
@@ -54,15 +55,23 @@ fn is_entity_text(text: &str) -> bool
     1 <= text.len() && text.len() <= 64 && are_entity_bytes(text.as_bytes())
 }
 
+// The letter that the ids of the type begin with.
+fn letter_of(numbered: NumberedType) -> &'static str
+    ensures { result.now ≡ numbered_letter numbered ∷ [] }
+{
+    match numbered {
+        NumberedType::Property => "P",
+        NumberedType::Item => "Q",
+    }
+}
+
 // The id with the type's letter and a number as it is spelled.
 #[tactic(auto, unfolding(crate::specs::Reading::Values::numeric_id))]
 fn numeric_id(alloc: Global, numbered: NumberedType, spelling: &str) -> Result<Text, PartFault>
     ensures { Finds result (numeric_id numbered spelling.now) }
 {
-    let text = match numbered {
-        NumberedType::Property => format!(in alloc; "P{spelling}")?,
-        NumberedType::Item => format!(in alloc; "Q{spelling}")?,
-    };
+    let letter = letter_of(numbered);
+    let text = format!(in alloc; "{letter}{spelling}")?;
     match EntityId::read(text.as_str()) {
         Some(_) => Ok(Text::from_string(text)),
         None => Err(PartFault::Shape),
@@ -111,14 +120,19 @@ fn time_of<'a>(alloc: Global, json: &Json<'_, 'a>) -> Result<TimeParts<'a>, Part
         return Err(PartFault::Shape);
     }
     let time = copy_text_at(alloc, json, "time")?;
-    let calendar = copy_text_at(alloc, json, "calendarmodel")?;
-    Ok(TimeParts {
-        time,
-        precision,
-        precision_text: CowText::borrowed(precision_text),
-        timezone: CowText::borrowed(timezone),
-        calendar,
-    })
+    match copy_text_at(alloc, json, "calendarmodel") {
+        Ok(calendar) => Ok(TimeParts {
+            time,
+            precision,
+            precision_text: CowText::borrowed(precision_text),
+            timezone: CowText::borrowed(timezone),
+            calendar,
+        }),
+        Err(fault) => {
+            drop(time);
+            Err(fault)
+        }
+    }
 }
 
 // A number with its unit and bounds.
@@ -127,15 +141,35 @@ fn quantity_of<'a>(alloc: Global, json: &Json<'_, 'a>) -> Result<QuantityParts<'
     ensures { Finds result (quantity_of (json_view json.now)) }
 {
     let amount = copy_text_at(alloc, json, "amount")?;
-    let unit = copy_text_at(alloc, json, "unit")?;
-    let upper = optional_text_at(alloc, json, "upperBound")?;
-    let lower = optional_text_at(alloc, json, "lowerBound")?;
-    Ok(QuantityParts {
-        amount,
-        unit,
-        upper,
-        lower,
-    })
+    let unit = match copy_text_at(alloc, json, "unit") {
+        Ok(unit) => unit,
+        Err(fault) => {
+            drop(amount);
+            return Err(fault);
+        }
+    };
+    let upper = match optional_text_at(alloc, json, "upperBound") {
+        Ok(upper) => upper,
+        Err(fault) => {
+            drop(unit);
+            drop(amount);
+            return Err(fault);
+        }
+    };
+    match optional_text_at(alloc, json, "lowerBound") {
+        Ok(lower) => Ok(QuantityParts {
+            amount,
+            unit,
+            upper,
+            lower,
+        }),
+        Err(fault) => {
+            drop(upper);
+            drop(unit);
+            drop(amount);
+            Err(fault)
+        }
+    }
 }
 
 // A point on a globe.
@@ -146,13 +180,18 @@ fn globe_of<'a>(alloc: Global, json: &Json<'_, 'a>) -> Result<GlobeParts<'a>, Pa
     let latitude = number_at(json, "latitude")?;
     let longitude = number_at(json, "longitude")?;
     let precision = nullable_number_at(json, "precision")?;
-    let globe = copy_text_at(alloc, json, "globe")?;
-    Ok(GlobeParts {
-        latitude: CowText::borrowed(latitude),
-        longitude: CowText::borrowed(longitude),
-        precision,
-        globe,
-    })
+    match copy_text_at(alloc, json, "globe") {
+        Ok(globe) => Ok(GlobeParts {
+            latitude: CowText::borrowed(latitude),
+            longitude: CowText::borrowed(longitude),
+            precision,
+            globe,
+        }),
+        Err(fault) => {
+            drop(precision);
+            Err(fault)
+        }
+    }
 }
 
 // A value of the type; one of a type that isn't named here may be anything.
@@ -160,13 +199,11 @@ fn globe_of<'a>(alloc: Global, json: &Json<'_, 'a>) -> Result<GlobeParts<'a>, Pa
 fn value_of_type<'a>(alloc: Global, kind: &str, json: &Json<'_, 'a>) -> Result<Value<'a>, PartFault>
     ensures { Finds result (value_of_type kind.now (json_view json.now)) }
 {
-    if kind == "string" {
-        return copy_text(alloc, json).map(Value::Str);
+    match kind {
+        "string" => copy_text(alloc, json).map(Value::Str),
+        "wikibase-entityid" => entity_value(alloc, json).map(Value::Entity),
+        _ => value_of_parts(alloc, kind, json),
     }
-    if kind == "wikibase-entityid" {
-        return entity_value(alloc, json).map(Value::Entity);
-    }
-    value_of_parts(alloc, kind, json)
 }
 
 // The same of a type whose values have parts.
@@ -178,19 +215,13 @@ fn value_of_parts<'a>(
 ) -> Result<Value<'a>, PartFault>
     ensures { Finds result (value_of_parts kind.now (json_view json.now)) }
 {
-    if kind == "time" {
-        return time_of(alloc, json).map(Value::Time);
+    match kind {
+        "time" => time_of(alloc, json).map(Value::Time),
+        "quantity" => quantity_of(alloc, json).map(Value::Quantity),
+        "globecoordinate" => globe_of(alloc, json).map(Value::Globe),
+        "monolingualtext" => tagged_under(alloc, json, "text").map(Value::Mono),
+        _ => Ok(Value::Other),
     }
-    if kind == "quantity" {
-        return quantity_of(alloc, json).map(Value::Quantity);
-    }
-    if kind == "globecoordinate" {
-        return globe_of(alloc, json).map(Value::Globe);
-    }
-    if kind == "monolingualtext" {
-        return tagged_under(alloc, json, "text").map(Value::Mono);
-    }
-    Ok(Value::Other)
 }
 
 // A data value.
