@@ -22,7 +22,7 @@ module _ (choices : FollowChoices) (before now : FollowMoment) (state : ReplicaS
   pub ended : Prints (replica_text choices.export state.applied state.triples) before.output now.output (Ok tt) → Ending choices before now
   ended prints =
       let printed = subst (λ text. Prints text before.output now.output (Ok tt)) text_is prints in
-      record { items = taken.items; applied = state.applied; followed = followed; printed = printed.outcome }
+      record { items = taken.items; applied = state.applied; followed = followed; printed = printed.outcome; handed = printed.leaves }
 
   -- not all was printed
   pub broken_off : (why : Unwritten) → Prints (replica_text choices.export state.applied state.triples) before.output now.output (Err why) → StoppedFollowing (stop_of_unwritten why) choices before now

@@ -1,5 +1,5 @@
 -- What a follower prints, and what it leaves.
-use Rattle.std.specs.Prelude.{◌≡◌, ◌⊎◌, ℕ, Bool, cond, List, [], ◌++◌, None, IfSome, codes, decimal}
+use Rattle.std.specs.Prelude.{◌≡◌, ◌⊎◌, ℕ, Bool, false, cond, List, [], ◌++◌, None, IfSome, codes, decimal}
 use Rattle.wq_io.specs.{Streams.IsAtEnd, Streams.after_known, declared.source.Source.Ghosts as SourceOf}
 use Rattle.wq_io.specs.declared.sink.Sink.{Ghosts as SinkOf}
 use Rattle.rdf_term.specs.declared.triple.Triple.{Triple}
@@ -40,12 +40,14 @@ pub record HasFollowed (choices : FollowChoices) (items : List PatchRecord) (app
   pub greatest : IsGreatest items applied
   pub roomed : HadRoom follower_limit items applied
 
--- a follower ended with Ok: the triples after these records were printed, if they were asked for
+-- a follower ended with Ok: the triples after these records were printed, if they were asked for; and if nothing waited before to be handed on
+-- to the outside, nothing waits
 pub record Ending (choices : FollowChoices) (before now : FollowMoment) : Type 0 where
   pub items : List PatchRecord
   pub applied : ℕ
   pub followed : HasFollowed choices items applied before.input now.input
   pub printed : now.output.bytes ≡ after_known before.output.bytes (replica_text choices.export applied (after items applied))
+  pub handed : before.output.waits ≡ false → now.output.waits ≡ false
 
 -- all records were followed, and then a prefix of what is printed was written, and nothing else
 pub record BrokenOff (why : Unwritten) (choices : FollowChoices) (before now : FollowMoment) : Type 0 where
@@ -54,8 +56,8 @@ pub record BrokenOff (why : Unwritten) (choices : FollowChoices) (before now : F
   pub followed : HasFollowed choices items applied before.input now.input
   pub cut_short : IsCutShort why (replica_text choices.export applied (after items applied)) before.output now.output
 
--- a follower stopped before it printed anything, or while it printed
+-- a follower stopped before it printed anything, the output being as it was, or while it printed
 abbrev pub StoppedFollowing : FollowStop → FollowChoices → FollowMoment → FollowMoment → Type 0
 StoppedFollowing stop choices before now =
-    (TakingStopped stop (follow_max_bytes_of choices) follower_limit before.input now.input × (now.output.bytes ≡ before.output.bytes))
+    (TakingStopped stop (follow_max_bytes_of choices) follower_limit before.input now.input × (now.output ≡ before.output))
     ⊎ ((why : Unwritten) × (stop ≡ stop_of_unwritten why) × BrokenOff why choices before now)

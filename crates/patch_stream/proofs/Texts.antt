@@ -11,7 +11,7 @@ use Rattle.world.specs.Changing.{IsChangeOf}
 use Rattle.replica.specs.{Head.head_line, Record.record_text}
 use Rattle.replica.proofs.Records.{record_parts}
 use Rattle.text_output.specs.{declared.write.Unwritten.Unwritten, declared.write.Unwritten.TheVariants.OutOfMemory}
-use Rattle.text_output.specs.Printing.{Output, Prints}
+use Rattle.text_output.specs.Printing.{Output, Prints, Puts}
 use Rattle.text_output.proofs.Parts.{IsWriting, after_nothing, cut_short_at_once, prints_both, prints_first}
 use Rattle.patch_stream.specs.Stream.{Step, TellsStep, change_text, is_change, record_of_step, step}
 
@@ -24,17 +24,17 @@ some_record number change =
     omega (arith, length-append (head ++ 10 ∷ []) (change.came.text.items ++ change.gone.text.items), length-append head (10 ∷ []))
 
 -- the next line was written
-pub writing_line : (whole line rest : List ℕ) (old between new : Output) → IsWriting whole (line ++ rest) old between → Prints line between new (Ok tt) → IsWriting whole rest old new
+pub writing_line : (whole line rest : List ℕ) (old between new : Output) → IsWriting whole (line ++ rest) old between → Puts line between new (Ok tt) → IsWriting whole rest old new
 writing_line whole line rest old between new x y = record {
   written = x.written ++ line;
   is = x.is ∙ sym (append_assoc x.written line rest);
-  prints = prints_both (Ok tt) x.written line old between new x.prints y;
+  puts = prints_both (Ok tt) x.written line old between new x.puts y;
 }
 
 -- the next line wasn't written wholly
-pub writing_cut_short : (why : Unwritten) (whole line rest : List ℕ) (old between new : Output) → IsWriting whole (line ++ rest) old between → Prints line between new (Err why) → Prints whole old new (Err why)
+pub writing_cut_short : (why : Unwritten) (whole line rest : List ℕ) (old between new : Output) → IsWriting whole (line ++ rest) old between → Puts line between new (Err why) → Puts whole old new (Err why)
 writing_cut_short why whole line rest old between new x y =
-    rw x.is (prints_both (Err why) x.written (line ++ rest) old between new x.prints (prints_first why line rest between new y))
+    rw x.is (prints_both (Err why) x.written (line ++ rest) old between new x.puts (prints_first why line rest between new y))
 
 -- ---- the change of a step
 
@@ -109,6 +109,7 @@ module _ (told : ℕ) (s : Step) (old : Output) where
       ap (λ b. cond b (told + 1) told) (sym still),
       sym (after_nothing old.bytes) ∙ ap (λ b. after_known old.bytes (cond b (record_text (record_of_step (told + 1) s)) [])) (sym still),
     );
+    handed = λ quiet. quiet;
   }
 
   -- the record is printed
@@ -120,6 +121,7 @@ module _ (told : ℕ) (s : Step) (old : Output) where
       ap (λ b. cond b (told + 1) told) (sym changes),
       prints.outcome ∙ ap (λ b. after_known old.bytes (cond b (record_text (record_of_step (told + 1) s)) [])) (sym changes),
     );
+    handed = prints.leaves;
   }
 
   -- it isn't begun
@@ -127,9 +129,10 @@ module _ (told : ℕ) (s : Step) (old : Output) where
   step_not_begun changes = record {
     later = omega arith;
     most = refl;
-    outcome = (changes, (cut_short_at_once (record_text (record_of_step (told + 1) s)) old).outcome);
+    outcome = (changes, (cut_short_at_once {handed = true} (record_text (record_of_step (told + 1) s)) old).outcome);
+    handed = λ _. tt;
   }
 
   -- it isn't printed wholly
   pub step_cut_short : (why : Unwritten) (new : Output) → is_change s ≡ true → Prints (record_text (record_of_step (told + 1) s)) old new (Err why) → TellsStep told s old new (Err why)
-  step_cut_short why new changes prints = record { later = prints.later; most = prints.most; outcome = (changes, prints.outcome) }
+  step_cut_short why new changes prints = record { later = prints.later; most = prints.most; outcome = (changes, prints.outcome); handed = λ _. tt }

@@ -1,5 +1,5 @@
 -- The steps of a replay, and the records of what they change of the stored triples.
-use Rattle.std.specs.Prelude.{◌≡◌, ℕ, ◌+◌, ◌≤◌, Bool, true, false, cond, List, [], ◌∷◌, ◌++◌, Option, Result, MatchResult, filter, flat_map, length}
+use Rattle.std.specs.Prelude.{◌≡◌, ℕ, ◌+◌, ◌≤◌, Bool, true, false, cond, List, [], ◌∷◌, ◌++◌, Option, Result, IfOk, MatchResult, filter, flat_map, length}
 use Rattle.std.specs.List.{list_any}
 use Rattle.wq_io.specs.Streams.{after_known}
 use Rattle.sorted_sets.specs.Rising.{difference}
@@ -104,13 +104,14 @@ step_text told s = cond (is_change s) (record_text (record_of_step (told + 1) s)
 abbrev pub told_after : ℕ → Step → ℕ
 told_after told s = cond (is_change s) (told + 1) told
 
--- the record of a step is told, if it changes what is stored, and how many records were told then is answered; or a prefix of the record was
--- written, and nothing else
+-- the record of a step is told, if it changes what is stored, and how many records were told then is answered, while nothing waits to be
+-- handed on, if nothing waited before; or a prefix of the record was written, and nothing else
 pub record TellsStep (told : ℕ) (s : Step) (old new : Output) (result : Result ℕ Unwritten) : Type 0 where
   pub later : old.faults ≤ new.faults
   pub most : new.most_faults ≡ old.most_faults
   pub outcome : MatchResult result (λ now. (now ≡ told_after told s) × (new.bytes ≡ after_known old.bytes (step_text told s)))
       (λ why. (is_change s ≡ true) × IsCutShort why (record_text (record_of_step (told + 1) s)) old new)
+  pub handed : old.waits ≡ false → IfOk result (λ _. new.waits ≡ false)
 
 -- the text of the record with this number that tells a change
 abbrev pub change_text : ℕ → Change → List ℕ

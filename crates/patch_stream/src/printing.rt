@@ -3,7 +3,7 @@
 ghost use Rattle.std.specs.Prelude.{◌≡◌, ◌≤◌, ◌<◌, ◌+◌, ◌^◌, List, ◌++◌, ◌∷◌, ◌==◌, ◌||◌, nat_lt, [], length, position, string_bytes, IfOk, MatchOption};
 ghost use Rattle.rdf_term.specs.declared.triple.Triple.{Triple};
 ghost use Rattle.replica.specs.Head.{head_line};
-ghost use Rattle.text_output.specs.Printing.{Prints, output};
+ghost use Rattle.text_output.specs.Printing.{Prints, Puts, output};
 ghost use Rattle.triple_store.specs.declared.telling.Telling.TheVariants.{Change as TheChange};
 ghost use Rattle.world.specs.Changing.{Tells};
 ghost use Rattle.patch_stream.specs.Stream.{TellsStep, change_text, step};
@@ -78,9 +78,9 @@ fn print_change<K: Sink>(
     flush(true, out)
 }
 
-// Prints the first line of a record.
+// Writes the first line of a record.
 fn print_head<K: Sink>(alloc: Global, head: &Head, out: &mut K) -> Result<(), Unwritten>
-    ensures { Prints (head_line head.now ++ 10 ∷ []) (output K.Sink out.old) (output K.Sink out.new) result }
+    ensures { Puts (head_line head.now ++ 10 ∷ []) (output K.Sink out.old) (output K.Sink out.new) result }
 {
     let line = head_line(alloc, head)?;
     write_all(line.as_bytes(), out)
@@ -94,9 +94,9 @@ fn head_line(alloc: Global, head: &Head) -> Result<String, OutOfMemory>
     Ok(format!(in alloc; "{line}\n")?)
 }
 
-// Prints a text, line by line.
+// Writes a text, line by line.
 fn print_text<K: Sink>(text: &[u8], out: &mut K) -> Result<(), Unwritten>
-    ensures { Prints text.now (output K.Sink out.old) (output K.Sink out.new) result }
+    ensures { Puts text.now (output K.Sink out.old) (output K.Sink out.new) result }
 {
     let mut rest = text;
     while !rest.is_empty() {

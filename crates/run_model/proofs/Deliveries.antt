@@ -31,7 +31,7 @@ use Rattle.run_model.proofs.Along.{along-push, along-still, asked-along, asks-pu
 use Rattle.run_model.proofs.Answers.{answer_held_by}
 use Rattle.run_model.proofs.Explaining.{along-asking, along-end, along-event, along-mapping, along-mark, asking_replies, end_replies, event_replies, event_rests, mapping_replies, mark_replies, open-taking}
 use Rattle.run_model.proofs.Needed.{all_met, due-none, first_met, needed-mapping, needed-watermark, none_left}
-use Rattle.run_model.proofs.Reports.{changed_with, reported_still, steps-mapping, steps-none, steps-watermark}
+use Rattle.run_model.proofs.Reports.{changed_with, reported_still, steps_handed, steps-mapping, steps-none, steps-watermark}
 
 -- a question is the delivery that asks it, makes no step, needs no room and brings no version of the mapping
 pub question-asked : (q : Question) → question_of (asking q) ≡ Some q
@@ -151,6 +151,7 @@ module _ (environment : Environment) (ds : List Delivery) (start : Beginning) wh
               (λ q r h. agree q r (applied-event now.world e q (rest_open now reported at_rest) ∙ h) ∙ ap (λ (replies : Replies). replies q r) (event_replies judgement environment.known (standing start) ds at_rest.leads.made now.world at_rest.leads.explained at_rest.rests (rest_open now reported at_rest) e)));
           counted = counted_taking now.counts at_rest.leads.made now.world.played.side (answer_to now.world.buffer e) e at_rest.leads.counted;
           documents = at_rest.leads.documents;
+          handed = at_rest.leads.handed;
           says = λ others agree. still_reported now (with_world now (after_event now.world e)) reported (Told e) others refl at_rest.rests rests (λ answers. refl) refl (at_rest.leads.says others
               (λ q r h. agree q r (applied-event now.world e q (rest_open now reported at_rest) ∙ h) ∙ ap (λ (replies : Replies). replies q r) (event_replies judgement environment.known (standing start) ds at_rest.leads.made now.world at_rest.leads.explained at_rest.rests (rest_open now reported at_rest) e)));
         };
@@ -217,6 +218,7 @@ module _ (environment : Environment) (ds : List Delivery) (start : Beginning) wh
         (λ q r h. agree q r (applied-mark now.world m q h) ∙ ap (λ (replies : Replies). replies q r) (mark_replies judgement environment.known (standing start) ds at_rest.leads.made now.world at_rest.leads.explained at_rest.rests m));
     counted = at_rest.leads.counted;
     documents = at_rest.leads.documents;
+    handed = at_rest.leads.handed;
     says = λ others agree. mark_reported now reported m at_rest others
         (λ q r h. agree q r (applied-mark now.world m q h) ∙ ap (λ (replies : Replies). replies q r) (mark_replies judgement environment.known (standing start) ds at_rest.leads.made now.world at_rest.leads.explained at_rest.rests m));
   }
@@ -230,6 +232,7 @@ module _ (environment : Environment) (ds : List Delivery) (start : Beginning) wh
         (λ q r h. agree q r (applied-end now.world q h) ∙ ap (λ (replies : Replies). replies q r) (end_replies judgement environment.known (standing start) ds at_rest.leads.made now.world at_rest.leads.explained at_rest.rests));
     counted = at_rest.leads.counted;
     documents = at_rest.leads.documents;
+    handed = at_rest.leads.handed;
     says = λ others agree. end_reported now reported at_rest others
         (λ q r h. agree q r (applied-end now.world q h) ∙ ap (λ (replies : Replies). replies q r) (end_replies judgement environment.known (standing start) ds at_rest.leads.made now.world at_rest.leads.explained at_rest.rests));
   }
@@ -252,6 +255,7 @@ module _ (environment : Environment) (ds : List Delivery) (start : Beginning) wh
           says = λ others agree. reported_still environment.report (course_of_mark m) (course_after environment.routes (ds ++ Watermark m ∷ []) start) reported_now start then then others refl
               (λ answers. silent (Watermark m) others refl) (λ first are. are) (there.says others agree);
           roomed = there.roomed;
+          handed = there.handed;
         };
         answered = answered_then environment.report reported reported_now ds (Watermark m) start refl applies.answered at_rest.answered;
         rests = applies.rests;
@@ -354,6 +358,10 @@ module _ (environment : Environment) (ds : List Delivery) (start : Beginning) wh
   ask_later Answers q reported reported_now text old out answers = answers.1.later
   ask_later Changes q reported reported_now text old out answers = rw answers.1 (omega arith)
 
+  ask_handed : (report : Report) (q : Question) (reported reported_now : Reported) (text : List ℕ) (old out : Output) → AnswersQuestion report reported q text old out (Ok reported_now) → old.waits ≡ false → out.waits ≡ false
+  ask_handed Answers q reported reported_now text old out answers quiet = answers.1.leaves quiet
+  ask_handed Changes q reported reported_now text old out answers quiet = ap (λ (o : Output). o.waits) answers.1 ∙ quiet
+
   pub ask_taken : (now : Stage) (q : Question) (reported : Reported) (matched : ℕ) (reported_now : Reported) (out : Output) → AnswersQuestion environment.report reported q (answer_held environment.routes reported.number matched now.mapped now.world.played.records q) now.output out (Ok reported_now) →
       matched ≡ start.numbered.matches + matches ds → AtRest environment ds reported start now → AtRest environment (ds ++ asking q ∷ []) reported_now start (with_output now out)
   ask_taken now q reported matched reported_now out answers counted at_rest = record {
@@ -370,6 +378,7 @@ module _ (environment : Environment) (ds : List Delivery) (start : Beginning) wh
           ask_reported environment.report now q reported matched reported_now out others refl at_rest.rests answers
           (λ asked. answer_is now q reported matched at_rest others before (is_answer ds start environment.report reported at_rest.answered asked) counted)
           (at_rest.leads.says others before);
+      handed = λ quiet. ask_handed environment.report q reported reported_now _ now.output out answers (at_rest.leads.handed quiet);
     };
     answered = ask_answered environment.report q reported reported_now _ now.output out answers at_rest.answered;
     rests = at_rest.rests;
@@ -446,6 +455,7 @@ module _ (environment : Environment) (ds : List Delivery) (start : Beginning) wh
           let before : AgreeOnApplied now.world at_rest.leads.explained.replies others =
           λ q r h. agree q r h ∙ ap (λ (replies : Replies). replies q r) (mapping_replies judgement environment.known (standing start) ds at_rest.leads.made now.world at_rest.leads.explained at_rest.rests v) in
           mapping_reported environment.report now v reported reported_now mapped out others at_rest.rests at_rest.mapped (rest_is now reported at_rest others before) tells (at_rest.leads.says others before);
+      handed = λ quiet. steps_handed environment.report reported reported_now _ now.output out tells (at_rest.leads.handed quiet);
     };
     answered = answered_then environment.report reported reported_now ds (Mapping v) start refl (mapping_answered environment.report reported reported_now _ now.output out tells) at_rest.answered;
     rests = at_rest.rests;
@@ -486,6 +496,7 @@ module _ (environment : Environment) (ds : List Delivery) (start : Beginning) wh
     documents = at_rest.leads.documents;
     says = λ others agree. remapping_reported environment.report now reported reported_now pages mapped out others at_rest.rests tells (at_rest.leads.says others agree);
     roomed = at_rest.leads.roomed;
+    handed = λ quiet. steps_handed environment.report reported reported_now pages now.output out tells (at_rest.leads.handed quiet);
   }
 
   -- how many records there are then

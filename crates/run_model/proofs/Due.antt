@@ -31,7 +31,7 @@ use Rattle.graph_routes.specs.declared.routes.Route.{Route}
 use Rattle.term_pool.specs.declared.fault.PoolFault.{PoolFault as StoreFault}
 use Rattle.term_pool.specs.declared.fault.PoolFault.TheVariants.{Full, OutOfMemory}
 use Rattle.run_model.proofs.Needed.{due-some, next_met, room_replied}
-use Rattle.run_model.proofs.Reports.{reported_but_last, reported_next, reported_still, steps-some, still_answered}
+use Rattle.run_model.proofs.Reports.{reported_but_last, reported_next, reported_still, step_handed, steps-some, still_answered}
 use Rattle.run_model.proofs.Versions.{all_held_by}
 
 -- events are applied and told: the world leads where it led, where every page was mapped by the version of the play
@@ -211,6 +211,7 @@ applies-leads routes report contents folder limit reported reported_now before n
           documents = on.documents;
           says = λ others agree. reported_next report course reported reported_now start before now (step_between before now) others (on.first others agree) tells (x.says others (on.agree_before others agree));
           roomed = on.roomed;
+          handed = λ quiet. step_handed report reported reported_now (step_between before now) before.output now.output tells (x.handed quiet);
         };
         steps = suc under_way.steps;
         is = λ others agree. on.is_next others agree ∙ ap (after_next others) (under_way.is others (on.agree_before others agree));
@@ -283,6 +284,7 @@ none_due environment reported reported_now before out now last world new goes ca
         documents = there.documents;
         says = λ others agree. reported_still environment.report course course reported_now start (stage_in out now world) (stage_in out last world) others refl (λ answers. refl) (λ first is. is) (there.says others agree);
         roomed = there.roomed;
+        handed = there.handed;
       };
   rests = none;
   answered = goes.answered;

@@ -58,6 +58,7 @@ is_played environment course reported start now x rests mapped = record {
   is = Explained-is judgement environment.known course.state course.fetched x.made now.world x.explained rests;
   says = all_reported environment.report course reported start now x.explained.replies rests (x.says x.explained.replies (λ q r h. refl));
   roomed = all_met environment.limit _ _ (due-none course.version x.explained.replies now.world rests) (x.roomed x.explained.replies (λ q r h. refl));
+  handed = x.handed;
   documents = x.documents;
   applied = x.explained.failed_applied;
   mapped = mapped;

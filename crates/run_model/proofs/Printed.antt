@@ -36,7 +36,7 @@ bytes_told routes report closed sections ds start replies changed =
 -- where the output has what is reported of the play and its sections, all that a run leaves is there
 module _ (environment : Environment) (closed : Bool) (sections : Sections) (ds : List Delivery) (start : Beginning) (now : Stage) (out : Output) (replay : IsReplayed environment (course_ended environment.routes closed ds start) ds start now)
     (says : (replies : Replies) → now.world ≡ (course_ended environment.routes closed ds start).state replies → now.output.bytes ≡ bytes_of environment.report (course_ended environment.routes closed ds start) start replies →
-    out.bytes ≡ bytes_of environment.report (course_printed environment.routes closed sections ds start) start replies) where
+    out.bytes ≡ bytes_of environment.report (course_printed environment.routes closed sections ds start) start replies) (handed : now.output.waits ≡ false → out.waits ≡ false) where
   says_there : (contents : ℕ → Option Bytes) → environment.known ≡ Some contents → out.bytes ≡ bytes_of environment.report (course_printed environment.routes closed sections ds start) start (replies_there contents now.world)
   says_there contents is = says (replies_there contents now.world) (replay.played.source contents is) (replay.played.source_says contents is)
 
@@ -58,6 +58,7 @@ module _ (environment : Environment) (closed : Bool) (sections : Sections) (ds :
       replies = replay.played.replies;
       fit = replay.played.fit;
       is = replay.played.is;
+      handed = λ quiet. handed (replay.played.handed quiet);
       says = says replay.played.replies replay.played.is replay.played.says;
       roomed = replay.played.roomed;
       documents = replay.played.documents;
@@ -82,13 +83,13 @@ course_before run ds start = course_ended run.environment.routes (closes run.cho
 printed : (run : Run) (numbers : Counts) (before now : Moment) (out : Output) (taken : HasTakenAll run numbers before now) →
     ((replies : Replies) → now.stage.world ≡ (course_before run taken.replayed.deliveries (start_of run before)).state replies →
     now.stage.output.bytes ≡ bytes_of run.environment.report (course_before run taken.replayed.deliveries (start_of run before)) (start_of run before) replies →
-    out.bytes ≡ bytes_of run.environment.report (course_of run taken.replayed.deliveries (start_of run before)) (start_of run before) replies) → HasPrinted run numbers before (record now { stage = with_output now.stage out })
-printed run numbers before now out taken says =
+    out.bytes ≡ bytes_of run.environment.report (course_of run taken.replayed.deliveries (start_of run before)) (start_of run before) replies) → (now.stage.output.waits ≡ false → out.waits ≡ false) → HasPrinted run numbers before (record now { stage = with_output now.stage out })
+printed run numbers before now out taken says handed =
     let sections : Sections = sections_of run.choices in
     let ds : List Delivery = taken.replayed.deliveries in
     record {
-      replayed = record { deliveries = ds; read = taken.replayed.read; are = taken.replayed.are; replay = all_printed run.environment (closes run.choices) sections ds (start_of run before) now.stage out taken.replayed.replay says };
-      function = is_function run.environment (closes run.choices) sections ds (start_of run before) now.stage out taken.replayed.replay says;
+      replayed = record { deliveries = ds; read = taken.replayed.read; are = taken.replayed.are; replay = all_printed run.environment (closes run.choices) sections ds (start_of run before) now.stage out taken.replayed.replay says handed };
+      function = is_function run.environment (closes run.choices) sections ds (start_of run before) now.stage out taken.replayed.replay says handed;
       kept = taken.kept;
       counted = taken.counted;
     }
@@ -109,12 +110,14 @@ printed_answers run numbers before now out answers taken prints =
     ∙ after_twice start.output.bytes (said_by routes replies (standing start) ds) (closing_by routes (version_at ds start) sections now.stage.world.played)
     ∙ ap (λ (w : ReplayState). after_known start.output.bytes (said_by routes replies (standing start) ds ++ closing_by routes (version_at ds start) sections w.played)) is
     ∙ sym (bytes_answered run.environment.report (course_printed routes closed sections ds start) start replies answers))
+    prints.leaves
 
 -- the records of changes were printed
 pub printed_changes : (run : Run) (numbers : Counts) (before now : Moment) → run.environment.report ≡ Changes → HasTakenAll run numbers before now → HasPrinted run numbers before now
 printed_changes run numbers before now changed taken =
     printed run numbers before now now.stage.output taken
     (λ replies is says. says ∙ bytes_told run.environment.routes run.environment.report (closes run.choices) (sections_of run.choices) taken.replayed.deliveries (start_of run before) replies changed)
+    (λ quiet. quiet)
 
 -- what is printed at the end of a stage
 abbrev pub end_text : Run → Stage → List ℕ

@@ -138,6 +138,7 @@ nothing_taken_from environment numbered s stands = record {
     documents = stands.documents;
     says = λ others agree. nothing_reported environment.routes environment.report numbered s others stands.rests;
     roomed = λ others agree. record { met = []; are = due-none s.mapped.version others s.world stands.rests; have_room = tt };
+    handed = λ quiet. quiet;
   };
   answered = none_answered environment.report (start_in numbered s);
   rests = stands.rests;

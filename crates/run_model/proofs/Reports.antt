@@ -205,6 +205,18 @@ unprinted_held_up Answers why environment reported s old now middle more never =
 unprinted_held_up Changes WriteFault environment reported s old now middle more tells = omega (arith, more, (tells.outcome.1.failed refl).1)
 unprinted_held_up Changes OutOfMemory environment reported s old now middle more tells = tt
 
+-- ---- what waits to be handed on
+
+-- nothing waits after a step that is told, if nothing waited before
+pub step_handed : (report : Report) (reported reported_now : Reported) (s : Step) (old new : Output) → TellsStepBy report reported s old new (Ok reported_now) → old.waits ≡ false → new.waits ≡ false
+step_handed Answers reported reported_now s old new tells quiet = ap (λ (o : Output). o.waits) tells.1 ∙ quiet
+step_handed Changes reported reported_now s old new tells quiet = tells.handed quiet
+
+-- nor after these steps
+pub steps_handed : (report : Report) (reported reported_now : Reported) (steps : List Step) (old new : Output) → TellsBy report reported steps reported_now old new → old.waits ≡ false → new.waits ≡ false
+steps_handed Answers reported reported_now steps old new tells quiet = ap (λ (o : Output). o.waits) tells.1 ∙ quiet
+steps_handed Changes reported reported_now steps old new tells quiet = tells.handed quiet
+
 -- ---- remapped pages
 
 -- none is told yet
@@ -213,6 +225,7 @@ tells_none Answers reported out = (ap (reported_as reported.number) (or_false re
 tells_none Changes reported out = record {
   counted = λ numbered earlier is. is ∙ ap (λ l. numbered + changes l) (sym (append-nil earlier));
   bytes = λ numbered earlier start is was. was ∙ ap (λ l. after_known start (stream_text_from numbered l)) (sym (append-nil earlier));
+  handed = λ quiet. quiet;
 }
 
 -- one more is told
@@ -233,6 +246,7 @@ tells_next Changes reported between now steps s old middle new first then = reco
       let before = first.counted numbered earlier is in
       told_more numbered start middle.bytes new.bytes between.number (earlier ++ steps) s before (first.bytes numbered earlier start is was) then.outcome.1
       ∙ ap (λ l. after_known start (stream_text_from numbered l)) (append_assoc earlier steps (s ∷ []));
+  handed = λ quiet. then.handed (first.handed quiet);
 }
 
 -- one more isn't told wholly

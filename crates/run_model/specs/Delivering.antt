@@ -71,11 +71,13 @@ TellsStepBy Answers reported s old new (Err why) = ⊥
 TellsStepBy Changes reported s old new (Ok now) = TellsStep reported.number s old new (Ok now.number)
 TellsStepBy Changes reported s old new (Err why) = TellsStep reported.number s old new (Err why)
 
--- the records of these steps were written behind so many, and so many are written then
-pub record HasToldSteps (told : ℕ) (steps : List Step) (told_now : ℕ) (old new : Option (List ℕ)) : Type 0 where
+-- the records of these steps were written behind so many, and so many are written then; if nothing waited before to be handed on, nothing
+-- waits
+pub record HasToldSteps (told : ℕ) (steps : List Step) (told_now : ℕ) (old new : Output) : Type 0 where
   pub counted : (numbered : ℕ) (earlier : List Step) → told ≡ numbered + changes earlier → told_now ≡ numbered + changes (earlier ++ steps)
-  pub bytes : (numbered : ℕ) (earlier : List Step) (start : Option (List ℕ)) → told ≡ numbered + changes earlier → old ≡ after_known start (stream_text_from numbered earlier) →
-      new ≡ after_known start (stream_text_from numbered (earlier ++ steps))
+  pub bytes : (numbered : ℕ) (earlier : List Step) (start : Option (List ℕ)) → told ≡ numbered + changes earlier → old.bytes ≡ after_known start (stream_text_from numbered earlier) →
+      new.bytes ≡ after_known start (stream_text_from numbered (earlier ++ steps))
+  pub handed : old.waits ≡ false → new.waits ≡ false
 
 -- what is reported once these steps were made too, where questions are answered
 abbrev pub reported_with : Reported → List Step → Reported
@@ -84,14 +86,14 @@ reported_with reported steps = reported_as reported.number (reported.changed || 
 -- if changes are reported; otherwise nothing is written
 abbrev pub TellsBy : Report → Reported → List Step → Reported → Output → Output → Type 0
 TellsBy Answers reported steps reported_now old new = (reported_now ≡ reported_with reported steps) × (new ≡ old)
-TellsBy Changes reported steps reported_now old new = HasToldSteps reported.number steps reported_now.number old.bytes new.bytes
+TellsBy Changes reported steps reported_now old new = HasToldSteps reported.number steps reported_now.number old new
 
 -- the records of these steps were written, and that of a last one wasn't written wholly
 pub record BreaksOff (why : Unwritten) (told : ℕ) (steps : List Step) (last : Step) (old new : Output) : Type 0 where
   pub differs : is_change last ≡ true
   pub between : Output
   pub told_then : ℕ
-  pub tells : HasToldSteps told steps told_then old.bytes between.bytes
+  pub tells : HasToldSteps told steps told_then old between
   pub cut_short : IsCutShort why (record_text (record_of_step (told_then + 1) last)) between new
 
 -- only if changes are reported
@@ -101,7 +103,7 @@ BreaksOffBy Changes why reported steps last old new = BreaksOff why reported.num
 
 -- the world leads to a play with some replies, the counts rose with what was fetched for it so far, and what is held are
 -- documents; with all replies that agree with these on what was applied the output has what is reported of the play so far, and there was room for all
--- that the play needs but what due events have still to bring
+-- that the play needs but what due events have still to bring. If nothing waited before to be handed on, nothing waits
 pub record Leads (environment : Environment) (course : Course) (reported : Reported) (start : Beginning) (now : Stage) : Type 0 where
   pub made : ℕ
   pub explained : Explained judgement environment.known course.state course.fetched made now.world
@@ -109,6 +111,7 @@ pub record Leads (environment : Environment) (course : Course) (reported : Repor
   pub documents : HoldsDocuments now.world
   pub says : (others : Replies) → AgreeOnApplied now.world explained.replies others → HasReported environment.report course reported start now others
   pub roomed : (others : Replies) → AgreeOnApplied now.world explained.replies others → HaveRoomBefore environment.limit (needed_by_due course.version others now.world) (course.needed others)
+  pub handed : start.output.waits ≡ false → now.output.waits ≡ false
 
 -- the world leads to a play with some replies, and is so many applications of due events after where the play begins them,
 -- the least first

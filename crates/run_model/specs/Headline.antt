@@ -44,7 +44,8 @@ pub record IsPlayed (environment : Environment) (course : Course) (start : Begin
   pub fit : (e : Event) (r : ℕ) → GivesDocument judgement e.entity (replies e r)
   -- the world is where the play leads with them
   pub is : now.world ≡ course.state replies
-  -- the output has its report
+  -- the output has its report, and if nothing waited before to be handed on to the outside, nothing waits
+  pub handed : start.output.waits ≡ false → now.output.waits ≡ false
   pub says : now.output.bytes ≡ bytes_of environment.report course start replies
   -- each fetched or remapped page had room, with all that was held then
   pub roomed : HaveRoom environment.limit (course.needed replies)

@@ -1,5 +1,5 @@
 -- What the summary of a drill leaves that was printed, or was not printed wholly.
-use Rattle.std.proofs.Common.{◌≡◌, ◌∙◌, refl, ap, ℕ, arith, List, [], ◌∷◌, ◌++◌, map, Result, Ok, Err, OnOk, IfErr}
+use Rattle.std.proofs.Common.{◌≡◌, ◌∙◌, refl, ap, ℕ, arith, List, [], ◌∷◌, ◌++◌, map, Result, Ok, Err, OnOk, IfErr, true}
 use Rattle.std.specs.List.{flat_map}
 use Rattle.replay_model.specs.ReplayState.{ReplayState}
 use Rattle.wq_io.specs.declared.sink.Sink.{Ghosts as SinkOf}
@@ -18,7 +18,7 @@ joined f (x ∷ xs) = ap (λ l. f x ++ l) (joined f xs)
 
 -- nothing was printed, since memory was refused
 pub not_begun : (size : ℕ) (old new : Output) (world : ReplayState) → new ≡ old → HasBegun size world → DrillStopped OutOfMemory size old new world
-not_begun size old new world same begun = rw same (record { has_come = begun; cut_short = (cut_short_at_once (summary_text size) old).outcome })
+not_begun size old new world same begun = rw same (record { has_come = begun; cut_short = (cut_short_at_once {handed = true} (summary_text size) old).outcome })
 
 -- the lines of the summary of a drill that was run to its end were printed, or a prefix of them
 module _ {X : Type 0} (f : X → List ℕ) (lines : List X) (size : ℕ) (old new : Output) (world : ReplayState) (are : map f lines ≡ summary_lines (summary_of size)) (is : world ≡ drilled size) where
@@ -26,7 +26,7 @@ module _ {X : Type 0} (f : X → List ℕ) (lines : List X) (size : ℕ) (old ne
   text = joined f lines ∙ ap (flat_map (λ line. line)) are
 
   pub all_printed : (result : Result (Unit {0}) Unwritten) → Prints (flat_map f lines) old new result → OnOk result (HasDrilled size old new world)
-  all_printed (Ok done) printed = record { is = is; says = rw text at printed.outcome }
+  all_printed (Ok done) printed = record { is = is; says = rw text at printed.outcome; handed = printed.leaves }
   all_printed (Err why) printed = tt
 
   pub printed_in_part : (result : Result (Unit {0}) Unwritten) → HasBegun size world → Prints (flat_map f lines) old new result → IfErr result (λ why. DrillStopped why size old new world)

@@ -78,10 +78,11 @@ MaySave (Follow choices) status = ⊥
 abbrev pub summary_text : ℕ → List ℕ
 summary_text size = flat_map (λ line. line) (summary_lines (summary_of size))
 
--- the drill was run to its end, and its summary was printed, and nothing else
+-- the drill was run to its end, and its summary was printed, and nothing else; and if nothing waited before to be handed on, nothing waits
 pub record HasDrilled (size : ℕ) (old new : Output) (world : ReplayState) : Type 0 where
   pub is : world ≡ drilled size
   pub says : new.bytes ≡ after_known old.bytes (summary_text size)
+  pub handed : old.waits ≡ false → new.waits ≡ false
 
 -- how far a drill came whose summary was not printed wholly: to its end where a write failed, and to a first part where memory
 -- was refused

@@ -41,6 +41,9 @@ use wq_io::{Sink, Source};
 ///
 /// `follow` reads records of changes, and prints how many it applied and, if asked, the triples then.
 ///
+/// What was printed is handed on to the outside before the next line is read, and when the run ends with Ok or stops because of its input
+/// (`handed` of `IsPlayed`, and of `Ending` of following).
+///
 /// `words` are the arguments, and `keys` key the hashes of terms. `world` has taken no delivery yet and has no horizon; the call gives it
 /// back as the run leaves it. A replay or a drill begins with the first version of the mapping, whichever is in force in `world`, or with
 /// the world of a snapshot. A follower leaves the version as it is.

@@ -25,8 +25,9 @@ use world_snapshots::save;
 use wq_io::{Lines, Sink, Source};
 
 // Takes all lines of the input; after each watermark all due events are applied before the next line is taken, and each question is
-// answered at once; a change of the mapping remaps all held pages before the next line is taken. Saves the world behind each watermark that
-// is followed by a save. Says what is reported then, how many matches were delivered, and how many lines taken, with those of earlier runs.
+// answered at once; a change of the mapping remaps all held pages before the next line is taken. Whenever the next line is read, what was
+// printed has been handed on to the outside (the loop's invariant has `handed` of `Leads`). Saves the world behind each watermark that is
+// followed by a save. Says what is reported then, how many matches were delivered, and how many lines taken, with those of earlier runs.
 pub fn take_lines<S: Source, R: Revisions, K: Sink, F: Snapshots>(
     task: &Task<'_>,
     ports: &mut Ports<S, R, K, F>,

@@ -3,7 +3,7 @@
 ghost use Rattle.std.specs.Prelude.{◌≡◌, ◌++◌, ◌<◌, IfOk, flat_map, length, string_bytes};
 ghost use Rattle.rdf_term.specs.Text.{triple_text};
 ghost use Rattle.replay_model.specs.Transcript.{export_head, export_section};
-ghost use Rattle.text_output.specs.Printing.{Prints, output};
+ghost use Rattle.text_output.specs.Printing.{Prints, Puts, output};
 
 use crate::write::{Unwritten, flush, write_all};
 use rdf_term::OutOfMemory;
@@ -25,12 +25,13 @@ pub fn print_section<K: Sink>(
 {
     write_all(head.as_bytes(), out)?;
     print_rows(alloc, rows, out)?;
-    flush(!head.is_empty(), out)
+    let is_printed = !head.is_empty() | (rows.len() > 0);
+    flush(is_printed, out)
 }
 
 // Prints the line of each triple, each from the same buffer.
 fn print_rows<K: Sink>(alloc: Global, rows: &Rows<'_>, out: &mut K) -> Result<(), Unwritten>
-    ensures { Prints (flat_map triple_text rows.now) (output K.Sink out.old) (output K.Sink out.new) result }
+    ensures { Puts (flat_map triple_text rows.now) (output K.Sink out.old) (output K.Sink out.new) result }
 {
     let mut line = Vec::new(alloc);
     for index in 0..rows.len() {

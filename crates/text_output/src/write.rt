@@ -1,7 +1,7 @@
 // Bytes, and lines that are made already, are written whole.
 
-ghost use Rattle.std.specs.Prelude.{◌≡◌, ℕ, ◌<◌, List, Ok, flat_map, length, string_bytes, true};
-ghost use Rattle.text_output.specs.{Printing.Output, Printing.Prints, Printing.output, declared.write.Unwritten.TheVariants.OutOfMemory as UnwrittenOutOfMemory};
+ghost use Rattle.std.specs.Prelude.{◌≡◌, ℕ, List, Ok, flat_map, length, nat_lt, string_bytes};
+ghost use Rattle.text_output.specs.{Printing.Output, Printing.Prints, Printing.Puts, Printing.output, declared.write.Unwritten.TheVariants.OutOfMemory as UnwrittenOutOfMemory};
 
 use base::OutOfMemory;
 use wq_io::{NoWrite, Sink};
@@ -23,12 +23,12 @@ impl From<OutOfMemory> for Unwritten {
     }
 }
 
-/// Writes all bytes, the rest of them where the sink took a part.
+/// Writes all bytes, the rest of them where the sink took a part. They may wait to be handed on.
 ///
 /// # Errors
 /// The output could not be written, or memory was refused: then a prefix of the bytes was written, and nothing else.
 pub fn write_all<K: Sink>(bytes: &[u8], out: &mut K) -> Result<(), Unwritten>
-    ensures { Prints bytes.now (output K.Sink out.old) (output K.Sink out.new) result }
+    ensures { Puts bytes.now (output K.Sink out.old) (output K.Sink out.new) result }
 {
     let mut rest = bytes;
     while !rest.is_empty() {
@@ -41,12 +41,12 @@ pub fn write_all<K: Sink>(bytes: &[u8], out: &mut K) -> Result<(), Unwritten>
     Ok(())
 }
 
-/// Hands what was printed on to the outside, if anything was.
+/// Hands what was printed on to the outside, if anything was: then nothing waits any more.
 ///
 /// # Errors
 /// The output could not be written, or memory was refused: then a prefix of what was printed reached the outside, and nothing else.
 pub fn flush<K: Sink>(is_printed: bool, out: &mut K) -> Result<(), Unwritten>
-    ensures { (whole : List ℕ) → (before : Output) → (is_printed ≡ true → 0 < length whole) → Prints whole before (output K.Sink out.old) (Ok tt) → Prints whole before (output K.Sink out.new) result }
+    ensures { (whole : List ℕ) → (before : Output) → is_printed ≡ nat_lt 0 (length whole) → Puts whole before (output K.Sink out.old) (Ok tt) → Prints whole before (output K.Sink out.new) result }
 {
     if !is_printed {
         return Ok(());

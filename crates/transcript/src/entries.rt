@@ -3,7 +3,7 @@
 ghost use Rattle.std.specs.Prelude.{◌≡◌, ◌<◌, [], length, slice_get, unwrap_or};
 ghost use Rattle.std.specs.Option.{option_map};
 ghost use Rattle.replay_model.specs.Transcript.{side_section};
-ghost use Rattle.text_output.specs.Printing.{Prints, output};
+ghost use Rattle.text_output.specs.Printing.{Prints, Puts, output};
 ghost use Rattle.transcript.specs.Sections.{entry_text};
 
 use crate::lines::entry_line;
@@ -34,7 +34,7 @@ fn print_entry<K: Sink>(
     out: &mut K,
 ) -> Result<(), Unwritten>
     requires { index < length world.now.replay.played.side }
-    ensures { Prints (unwrap_or (option_map (entry_text world.now.replay.played.records) (slice_get world.now.replay.played.side index)) [])
+    ensures { Puts (unwrap_or (option_map (entry_text world.now.replay.played.records) (slice_get world.now.replay.played.side index)) [])
         (output K.Sink out.old) (output K.Sink out.new) result }
 {
     let Some(entry) = world.side(index) else {

@@ -1,6 +1,6 @@
 // A source and a sink in memory, with calls that are to fail.
 
-ghost use Rattle.std.specs.Prelude.{◌≡◌, ◌↔◌, ◌<◌, ◌≤◌, Some, [], length, min, nat_le, vec_len, IfErr, IfOk, IsErr, IsTrue, OnErr, OnOk, Err};
+ghost use Rattle.std.specs.Prelude.{◌≡◌, ◌↔◌, ◌<◌, ◌≤◌, false, refl, Some, [], length, min, nat_le, vec_len, IfErr, IfOk, IsErr, IsTrue, OnErr, OnOk, Err};
 ghost use Rattle.std.proofs.lemmas.List.Sums.{count_by-le-length};
 ghost use Rattle.wq_io.specs.Failing.{after_call, fails_next, failures};
 ghost use Rattle.wq_io.specs.Streams.{ReadTakes, Rose, WritePuts, after_read, given_by};
@@ -191,6 +191,8 @@ impl MemorySink {
 impl Sink for MemorySink {
     ghost held = { λ s. Some s.held };
 
+    ghost waits = { λ _. false };
+
     ghost faults = { λ s. failures s.calls };
 
     ghost most_faults = { λ s. Some (length s.calls.numbers) };
@@ -225,6 +227,8 @@ impl Sink for MemorySink {
     {
         Ok(())
     }
+
+    ghost told_at_once = { λ _. refl };
 
     ghost within_most = { λ s. count_by-le-length (λ k. nat_le k s.calls.calls) s.calls.numbers };
 }

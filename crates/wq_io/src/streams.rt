@@ -1,6 +1,6 @@
 // The streams of std as a source and a sink. They tell nothing of their bytes.
 
-ghost use Rattle.std.specs.Prelude.{◌≡◌, ◌<◌, ◌≤◌, None, length, IfOk, OnOk, OnErr, IfErr, IsErr};
+ghost use Rattle.std.specs.Prelude.{◌≡◌, ◌<◌, ◌≤◌, false, true, None, length, IfOk, OnOk, OnErr, IfErr, IsErr};
 ghost use Rattle.wq_io.specs.Streams.{counted};
 
 use crate::sink::{NoWrite, Sink};
@@ -54,21 +54,28 @@ impl<R: Read> Source for StdSource<R> {
 #[derive(Drop)]
 pub struct StdSink<W: Write> {
     writer: W,
+    waits: bool,
     faults: u64,
 }
 
 impl<W: Write> StdSink<W> {
-    /// No call failed yet.
+    /// Nothing waits, and no call failed yet.
     pub fn new(writer: W) -> StdSink<W>
-        ensures { result.faults ≡ 0 }
+        ensures waits { result.waits ≡ false }
+        ensures faults { result.faults ≡ 0 }
     {
-        StdSink { writer, faults: 0 }
+        StdSink {
+            writer,
+            waits: false,
+            faults: 0,
+        }
     }
 
     // A failure is counted.
     fn fail(&mut self) -> NoWrite
         ensures failed { result ≡ NoWrite.Failed }
         ensures counted { self.new.faults ≡ counted self.old.faults }
+        ensures waits { self.new.waits ≡ self.old.waits }
     {
         self.faults = self.faults.saturating_add(1);
         NoWrite::Failed
@@ -78,6 +85,8 @@ impl<W: Write> StdSink<W> {
 impl<W: Write> Sink for StdSink<W> {
     ghost held = { λ _. None };
 
+    ghost waits = { λ s. s.waits };
+
     ghost faults = { λ s. s.faults };
 
     ghost most_faults = { λ _. None };
@@ -85,24 +94,36 @@ impl<W: Write> Sink for StdSink<W> {
     fn write(&mut self, bytes: &[u8]) -> Result<usize, NoWrite>
         requires { 0 < length bytes.now }
         ensures bound { IfOk result (λ n. (0 < n) × (n ≤ length bytes.now)) }
+        ensures waits { OnOk result (self.new.waits ≡ true) }
+        ensures still { OnErr result (self.new.waits ≡ self.old.waits) }
         ensures quiet { OnOk result (self.new.faults ≡ self.old.faults) }
         ensures failed { IfErr result (λ e. (e ≡ NoWrite.Failed) × (self.new.faults ≡ counted self.old.faults)) }
     {
         match self.writer.write(bytes) {
-            Ok(count) if count > 0 => Ok(count),
+            Ok(count) if count > 0 => {
+                self.waits = true;
+                Ok(count)
+            }
             _ => Err(self.fail()),
         }
     }
 
     fn flush(&mut self) -> Result<(), NoWrite>
+        ensures handed { IfOk result (λ _. self.new.waits ≡ false) }
+        ensures still { OnErr result (self.new.waits ≡ self.old.waits) }
         ensures quiet { OnOk result (self.new.faults ≡ self.old.faults) }
         ensures failed { IfErr result (λ e. (e ≡ NoWrite.Failed) × (self.new.faults ≡ counted self.old.faults)) }
     {
         match self.writer.flush() {
-            Ok(()) => Ok(()),
+            Ok(()) => {
+                self.waits = false;
+                Ok(())
+            }
             Err(_) => Err(self.fail()),
         }
     }
+
+    ghost told_at_once = { λ _. tt };
 
     ghost within_most = { λ _. tt };
 }

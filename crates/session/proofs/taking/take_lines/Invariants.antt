@@ -1,4 +1,4 @@
--- The lines so far were read, the world has taken them, and the snapshots behind them are kept.
+-- The lines so far were read, the world has taken them, what was printed of them has been handed on, and the snapshots behind them are kept.
 use Rattle.std.proofs.Common.{◌≡◌, ◌-◌, None}
 use Rattle.run_model.specs.{Moment.HaveGoneOn, Moment.moment, Moved.run_in, Moved.GoesOn}
 use Rattle.run_model.proofs.Progress.{Counted}

@@ -3,7 +3,7 @@ use Rattle.std.proofs.Common.{◌≡◌, ◌<◌, length, take, arith}
 use Rattle.std.proofs.lemmas.List.{take_all}
 use Rattle.std.proofs.lemmas.Result.{err_from_is_err_and}
 use Rattle.transcript.specs.Sections.{entry_text}
-use Rattle.text_output.proofs.Parts.{text_cut_short, text_more_at, text_printed}
+use Rattle.text_output.proofs.Parts.{not_handed, text_cut_short, text_more_at, text_printed}
 use Rattle.replay_model.specs.Transcript.{side_section}
 use Rattle.text_output.specs.Printing.{output}
 use Rattle.transcript.proofs.EntryLines.{some_counted}
@@ -19,8 +19,8 @@ pub returns-in_err-print_entry : goal.returns-in_err-print_entry
 returns-in_err-print_entry g c =
     let within : c.loop-index.index < length c.args.world.now.replay.played.side = omega arith in
     let p = err_from_is_err_and c.from_residual.result c.from_residual.ensures.1 in
-    rw (p.1, p.2) (text_cut_short (entry_text c.args.world.now.replay.played.records) c.args.world.now.replay.played.side c.loop-index.index _ _ _ _ _
-    (text_more_at (entry_text c.args.world.now.replay.played.records) c.args.world.now.replay.played.side c.loop-index.index within) c.loop-index.invariant c.in_err-print_entry.ensures)
+    rw (p.1, p.2) (not_handed _ _ _ _ (text_cut_short (entry_text c.args.world.now.replay.played.records) c.args.world.now.replay.played.side c.loop-index.index _ _ _ _ _
+    (text_more_at (entry_text c.args.world.now.replay.played.records) c.args.world.now.replay.played.side c.loop-index.index within) c.loop-index.invariant c.in_err-print_entry.ensures))
 
 pub returns : goal.returns
 returns g c =
