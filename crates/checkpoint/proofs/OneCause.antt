@@ -7,7 +7,8 @@ use Rattle.wq_io.specs.Lines.{lines}
 use Rattle.entity_model.specs.{declared.id.EntityId.EntityId, declared.mapping.MappingVersion.MappingVersion}
 use Rattle.replay_model.specs.{Records.Records, Union.triples_held, Versions.all_by, Versions.meaning_by}
 use Rattle.fetched_pages.specs.Meaning.{meaning}
-use Rattle.world.specs.{Roomed.room_with, WorldState.WorldState}
+use Rattle.holders.specs.Roomed.{room_with}
+use Rattle.world.specs.WorldState.{WorldState}
 use Rattle.snapshot.specs.{declared.line.Line.Line, File.lines_in, LineText.line_of}
 use Rattle.snapshot.specs.declared.line.Line.TheVariants.{Head as Begins, Remembered, Entity, Side, End}
 use Rattle.snapshot.specs.Whole.{Loading, Saved, after_line, unbegun}

@@ -12,7 +12,8 @@ use Rattle.replay_model.specs.Versions.{all_by, meaning_by}
 use Rattle.entity_json.specs.Document.{unfit_of}
 use Rattle.wq_io.specs.Lines.{lines}
 use Rattle.fetched_pages.specs.Meaning.{meaning}
-use Rattle.world.specs.{Restoring.MayStand, Roomed.HasRoom, Roomed.room_with, WorldState.WorldState}
+use Rattle.holders.specs.Roomed.{HasRoom, room_with}
+use Rattle.world.specs.{Restoring.MayStand, WorldState.WorldState}
 use Rattle.snapshot.specs.declared.line.Line.{Line}
 use Rattle.snapshot.specs.declared.line.Line.TheVariants.{Head as Begins, Remembered, Entity, Side, End}
 use Rattle.snapshot.specs.{File.IsFitSaved, File.lines_in, Waiting.IsAtRest, LineText.line_of}

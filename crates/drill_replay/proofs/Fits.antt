@@ -17,7 +17,7 @@ use Rattle.replay_model.specs.{Union.Meaning, Union.triples_at, Union.triples_he
 use Rattle.triple_store.specs.Room.{distinct, terms_of}
 use Rattle.triple_store.proofs.Distinct.{fewer}
 use Rattle.fetched_pages.specs.Meaning.{meaning}
-use Rattle.world.specs.Roomed.{room_with}
+use Rattle.holders.specs.Roomed.{room_with}
 use Rattle.world.proofs.Entries.{over_ids}
 use Rattle.drill_replay.specs.Told.{keeps_page, page_events, terms_by, terms_there, triples_there, versions_told}
 use Rattle.drill_replay.proofs.Gathered.{gathered, giver_of, in_either, in_filter}

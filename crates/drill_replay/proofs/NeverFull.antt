@@ -10,7 +10,7 @@ use Rattle.reorder_buffer.specs.Buffered.{first_due}
 use Rattle.replay_model.specs.{Acceptance.event_of, Acceptance.events, Explained.is_fetching, Explained.revision_wanted, Records.Bytes}
 use Rattle.replay_model.specs.{ReplayState.ReplayState, ReplayState.following, Versions.meaning_by}
 use Rattle.fetched_pages.specs.Meaning.{meaning}
-use Rattle.world.specs.Roomed.{room_with}
+use Rattle.holders.specs.Roomed.{room_with}
 use Rattle.drill_replay.proofs.Fits.{fits}
 use Rattle.drill_replay.proofs.Named.{AreAmong, GivesThere, WorldNamed, end_named, entered_named, first_among, following_named, last_among, some_named, source_gives, wanted_named}
 use Rattle.drill_replay.proofs.Roomy.{roomy}

@@ -7,7 +7,7 @@ use Rattle.sorted_sets.proofs.{Bools.clash, Filtering.has-difference, Rising.has
 use Rattle.rdf_term.specs.{declared.triple.Triple.Triple, Order.triple_cmp, Order.triple_cmp-total}
 use Rattle.rdf_term.proofs.Texts.{triple_cmp-IsAntisymmetric}
 use Rattle.triple_store.specs.declared.telling.Change.{Change}
-use Rattle.world.specs.Changing.{IsChangeOf}
+use Rattle.holders.specs.Changing.{IsChangeOf}
 use Rattle.replica.specs.{Head.head_line, Record.record_text}
 use Rattle.replica.proofs.Records.{record_parts}
 use Rattle.text_output.specs.{declared.write.Unwritten.Unwritten, declared.write.Unwritten.TheVariants.OutOfMemory}

@@ -12,7 +12,7 @@ use Rattle.replay_model.specs.{ReplayState.ReplayState, ReplayState.due_now, Uni
 use Rattle.replay_model.specs.Versions.{all_by, meaning_by, with_version}
 use Rattle.triple_store.specs.{declared.telling.Change.Change, Telling.is_changed}
 use Rattle.fetched_pages.specs.Meaning.{meaning}
-use Rattle.world.specs.WorldState.{stale_by}
+use Rattle.holders.specs.Holding.{stale_by}
 use Rattle.text_output.specs.{declared.write.Unwritten.Unwritten, Printing.IsCutShort, Printing.Output}
 use Rattle.replica.specs.{declared.record.PatchRecord.PatchRecord, Head.head_line, Record.record_text}
 

@@ -4,7 +4,7 @@ ghost use Rattle.std.specs.Prelude.{◌≡◌, ◌↔◌, ℕ, false, List};
 ghost use Rattle.sorted_sets.specs.Rising.{IsRising};
 ghost use Rattle.rdf_term.specs.{declared.triple.Triple.Triple, Order.triple_cmp};
 ghost use Rattle.triple_store.specs.declared.telling.Change.{Change};
-ghost use Rattle.world.specs.Changing.{IsChangeOf};
+ghost use Rattle.holders.specs.Changing.{IsChangeOf};
 ghost use Rattle.replica.specs.Record.{record_text};
 ghost use Rattle.patch_stream.specs.Stream.{change_text, is_change, record_of_step, step};
 

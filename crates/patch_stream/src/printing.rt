@@ -5,7 +5,7 @@ ghost use Rattle.rdf_term.specs.declared.triple.Triple.{Triple};
 ghost use Rattle.replica.specs.Head.{head_line};
 ghost use Rattle.text_output.specs.Printing.{Prints, Puts, output};
 ghost use Rattle.triple_store.specs.declared.telling.Telling.TheVariants.{Change as TheChange};
-ghost use Rattle.world.specs.Changing.{Tells};
+ghost use Rattle.holders.specs.Changing.{Tells};
 ghost use Rattle.patch_stream.specs.Stream.{TellsStep, change_text, step};
 
 use rdf_term::OutOfMemory;

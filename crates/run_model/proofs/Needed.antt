@@ -22,10 +22,12 @@ use Rattle.replay_model.proofs.{Explaining.next_by, RecordOf.record-after, ToldC
 use Rattle.triple_store.specs.Room.{distinct, terms_of}
 use Rattle.world.specs.{declared.applied.AppliedEvent.AppliedEvent, declared.applied.Outcome.Outcome}
 use Rattle.world.specs.declared.applied.Outcome.TheVariants.{Same, Stored, Dropped}
-use Rattle.world.specs.{Applying.Applies, Applying.outcome_of_reply, Roomed.room_with}
-use Rattle.world.specs.WorldState.{WorldState, first_of, next_stale, remapped, stale, stale_by, triples_anew, triples_of, with_version_of}
+use Rattle.holders.specs.Roomed.{room_with}
+use Rattle.world.specs.Applying.{Applies, outcome_of_reply}
+use Rattle.holders.specs.Holding.{first_of, stale_by, with_version_of}
+use Rattle.world.specs.WorldState.{WorldState, next_stale, remapped, stale, triples_anew, triples_of}
 use Rattle.fetched_pages.specs.Meaning.{meaning}
-use Rattle.world.proofs.ByVersion.{stale_remapped}
+use Rattle.holders.proofs.ByVersion.{stale_remapped}
 use Rattle.replay_parts.specs.Checkpoint.{Checkpoint}
 use Rattle.run_model.specs.Course.{along, state_along, version_since}
 use Rattle.run_model.specs.Remapping.{HaveRoom, HaveRoomBefore, needed_anew, needed_of_delivery, needed_by, needed_by_all, needed_by_due, needed_by_pages, needed_for, Mapped, mapped_by, mapped_in}

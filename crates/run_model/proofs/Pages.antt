@@ -5,7 +5,8 @@ use Rattle.rdf_term.specs.Order.{triple_cmp}
 use Rattle.entity_model.specs.{declared.id.EntityId.EntityId, declared.mapping.MappingVersion.MappingVersion, EntityId.entity_cmp}
 use Rattle.replay_model.specs.{Records.Records, ReplayState.ReplayState, Union.union, Versions.meaning_by, Versions.with_version}
 use Rattle.fetched_pages.specs.Meaning.{meaning}
-use Rattle.world.specs.WorldState.{WorldState, first_of, remapped, stale, stored_of, with_version_of}
+use Rattle.holders.specs.Holding.{first_of, with_version_of}
+use Rattle.world.specs.WorldState.{WorldState, remapped, stale, stored_of}
 use Rattle.text_output.specs.declared.write.Unwritten.{Unwritten}
 use Rattle.text_output.specs.declared.write.Unwritten.TheVariants.{WriteFault, OutOfMemory}
 use Rattle.text_output.specs.Printing.{Output}

@@ -7,7 +7,7 @@ use Rattle.rdf_term.specs.{declared.triple.Triple.Triple, Order.triple_cmp}
 use Rattle.triple_store.specs.{declared.telling.Told.Told, Telling.tells_change}
 use Rattle.triple_store.specs.declared.telling.Telling.TheVariants.{Nothing, Whether, Change as TheChange}
 use Rattle.triple_store.specs.declared.telling.Told.TheVariants.{Nothing as NothingTold, Whether as ToldWhether, Change as ToldChange}
-use Rattle.world.specs.Changing.{Tells}
+use Rattle.holders.specs.Changing.{Tells}
 use Rattle.delivery.specs.{declared.Delivery.Delivery, declared.Delivery.TheVariants.Watermark, declared.Delivery.TheVariants.Mapping}
 use Rattle.entity_model.specs.{declared.event.Event.Event, declared.mapping.MappingVersion.MappingVersion}
 use Rattle.reorder_buffer.specs.{Watermarks.is_due, Buffered.first_due}

@@ -8,8 +8,10 @@ use Rattle.revisions.specs.Revisions.{Contents}
 use Rattle.replay_model.specs.{Records.Bytes, Records.Records, Records.record_of, ReplayState.ReplayState, Union.triples_held, Union.union}
 use Rattle.replay_model.specs.Versions.{all_by, is_holder, meaning_by}
 use Rattle.replay_model.proofs.Versions.{union-all}
-use Rattle.world.specs.{Applying.Applies, Roomed.room_with}
-use Rattle.world.specs.WorldState.{AreHolders, WorldState, first_of, next_stale, remapped, by_two_after, stale, triples_anew, triples_of}
+use Rattle.holders.specs.Roomed.{room_with}
+use Rattle.world.specs.Applying.{Applies}
+use Rattle.holders.specs.Holding.{AreHolders, first_of}
+use Rattle.world.specs.WorldState.{WorldState, next_stale, remapped, by_two_after, stale, triples_anew, triples_of}
 use Rattle.world.specs.declared.applied.AppliedEvent.{AppliedEvent}
 use Rattle.fetched_pages.specs.Meaning.{meaning}
 use Rattle.world.proofs.OneVersion.{applied_by_one}

@@ -8,8 +8,9 @@ use Rattle.replay_model.specs.{Records.Bytes, Records.Records, Records.record_of
 use Rattle.replay_model.specs.{Versions.all_by, Versions.meaning_by, Versions.with_version, Play.Played, Play.Replies, Play.apply}
 use Rattle.replay_model.specs.ReplayState.{ReplayState, after_mark, due_now}
 use Rattle.fetched_pages.specs.Meaning.{meaning}
-use Rattle.world.specs.Roomed.{HasRoom, room_with}
-use Rattle.world.specs.WorldState.{WorldState, first_of, stale_by, with_version_of}
+use Rattle.holders.specs.Roomed.{HasRoom, room_with}
+use Rattle.holders.specs.Holding.{first_of, stale_by, with_version_of}
+use Rattle.world.specs.WorldState.{WorldState}
 use Rattle.term_pool.specs.declared.fault.PoolFault.{PoolFault as StoreFault}
 use Rattle.term_pool.specs.declared.fault.PoolFault.TheVariants.{Full, OutOfMemory}
 use Rattle.sorted_sets.specs.Rising.{Each}

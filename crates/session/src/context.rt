@@ -4,7 +4,7 @@ ghost use Rattle.std.specs.Prelude.{◌≡◌, ◌+◌, ◌-◌, ◌^◌, ◌<�
 ghost use Rattle.rdf_term.specs.declared.triple.Triple.{Triple as TheTriple};
 ghost use Rattle.replay_model.specs.{Transcript.for_bindings, Transcript.for_triples, Versions.meaning_by};
 ghost use Rattle.fetched_pages.specs.Meaning.{meaning};
-ghost use Rattle.world.specs.Changing.{Tells};
+ghost use Rattle.holders.specs.Changing.{Tells};
 ghost use Rattle.text_output.specs.Printing.{Prints, output};
 ghost use Rattle.patch_stream.specs.Stream.{step};
 ghost use Rattle.run_model.specs.{Course.answer_text, Moment.HasWrittenOn};

@@ -11,7 +11,7 @@ use Rattle.entity_model.specs.EntityId.{entity_cmp}
 use Rattle.replay_model.specs.{Acceptance.events, Explained.revision_wanted, Play.Replies, Records.Bytes, Records.Records}
 use Rattle.replay_model.specs.{Replies.failed_events, ReplayState.following, Versions.all_by}
 use Rattle.triple_store.specs.Room.{distinct}
-use Rattle.world.specs.WorldState.{with_version_of}
+use Rattle.holders.specs.Holding.{with_version_of}
 use Rattle.arguments.specs.Options.{max_bytes_of}
 use Rattle.run_model.specs.{declared.stop.Stop.TheVariants.StoreFull, declared.stop.Halt.TheVariants.Unapplied as NotApplied}
 use Rattle.run_model.specs.Headline.{StandsAtMapping, Stopped, StopsAtEnd, StopsWithin}

@@ -4,7 +4,8 @@ use Rattle.delivery.specs.declared.Delivery.{Delivery}
 use Rattle.replay_model.specs.{Play.Replies, ReplayState.ReplayState, ReplayState.following, Versions.all_by, Versions.meaning_by}
 use Rattle.snapshot.specs.{File.IsFitSaved, File.file_text, File.saved_in_bytes, Waiting.IsAtRest, Whole.Saved}
 use Rattle.fetched_pages.specs.Meaning.{meaning}
-use Rattle.world.specs.{Roomed.room_with, WorldState.WorldState}
+use Rattle.holders.specs.Roomed.{room_with}
+use Rattle.world.specs.WorldState.{WorldState}
 use Rattle.checkpoint.specs.declared.fault.LoadFault.{LoadFault}
 use Rattle.checkpoint.specs.declared.fault.LoadFault.TheVariants.{ReadFault as NotRead, TooLong as OverLength, BadLine, Full, OutOfMemory as LoadOutOfMemory}
 use Rattle.checkpoint.specs.{Causes.IsFileOverfull, Causes.IsNoSnapshot, Causes.IsNoSnapshotWithin, Causes.longest_file, Loading.IsLoadable}

@@ -13,7 +13,7 @@ ghost use Rattle.replay_model.specs.Play.{Replies, fetches, fetches_to_end};
 ghost use Rattle.replay_model.specs.{ReplayState.ended, ReplayState.following, ReplayState.following_to_end, Transcript.said};
 ghost use Rattle.replay_model.specs.{Records.Bytes, Records.is_settled, Records.record_of, Versions.all_by, Versions.meaning_by};
 ghost use Rattle.fetched_pages.specs.Meaning.{meaning};
-ghost use Rattle.world.specs.Roomed.{room_with};
+ghost use Rattle.holders.specs.Roomed.{room_with};
 ghost use Rattle.snapshot.specs.{File.IsFitSaved, File.saved_in_bytes, declared.counts.Counts.Counts};
 ghost use Rattle.triple_store.specs.Room.{distinct};
 ghost use Rattle.wq_io.specs.Streams.{after_known};

@@ -21,10 +21,13 @@ use Rattle.subgraph.specs.{Entries.Entries, Entries.Entry, Laws.IsSplitOf, Laws.
 use Rattle.world.specs.{declared.applied.AppliedEvent.AppliedEvent, declared.applied.Outcome.Outcome}
 use Rattle.world.specs.declared.applied.Outcome.TheVariants.{Same, Stored, Dropped, Sided}
 use Rattle.world.specs.{declared.applied.RoutedPage.RoutedPage, Applying.Applies, Applying.outcome_of_reply}
-use Rattle.world.specs.Routed.{AreTriplesOf, GivesPage, routing_by}
-use Rattle.world.specs.WorldState.{AreHolders, WorldState, by_two_after, next_stale, remapped, with_version_of}
+use Rattle.holdings.specs.Mapped.{AreTriplesOf}
+use Rattle.world.specs.Routed.{GivesPage, routing_by}
+use Rattle.holders.specs.Holding.{AreHolders, with_version_of}
+use Rattle.world.specs.WorldState.{WorldState, by_two_after, next_stale, remapped}
 use Rattle.fetched_pages.specs.{Meaning.meaning, Routing.route_if, Routing.route_of_page}
-use Rattle.world.proofs.{ByVersion.version_other, ByVersion.version_own, Giving.recorded, Pieced.id_tells}
+use Rattle.holders.proofs.{ByVersion.version_other, ByVersion.version_own, Records.id_tells}
+use Rattle.world.proofs.Giving.{recorded}
 use Rattle.splitting.specs.Graphs.{AreEntriesAfter, AreEntriesAnew, AreEntriesOf, IsSound}
 
 -- ---- routes

@@ -8,7 +8,8 @@ use Rattle.replay_model.proofs.RecordOf.{record_of-empty}
 use Rattle.subgraph.specs.{Entries.Entries, Laws.IsSplitOf, Laws.entry_held}
 use Rattle.graph_routes.specs.declared.routes.Route.{Route}
 use Rattle.fetched_pages.specs.Meaning.{meaning}
-use Rattle.world.specs.{Routed.routing_by, WorldState.AreHolders, WorldState.WorldState}
+use Rattle.holders.specs.Holding.{AreHolders}
+use Rattle.world.specs.{Routed.routing_by, WorldState.WorldState}
 use Rattle.splitting.specs.Graphs.{AreEntriesOf, Follow, GraphsState, MayFollow}
 
 -- a world to which nothing was delivered

@@ -19,10 +19,12 @@ use Rattle.graph_routes.specs.declared.routes.Route.{Route}
 use Rattle.subgraph.specs.{Entries.Entries, Entries.Entry, Entries.graph_triples, Entries.terms_with, Entries.triples_in, Laws.entry_held}
 use Rattle.subgraph.specs.Split.{entry}
 use Rattle.subgraph.proofs.{Owning.gathered_from, Owning.gathered_if, Routed.fewer_terms}
-use Rattle.world.specs.{declared.applied.RoutedPage.RoutedPage, Roomed.HasRoom, Routed.IsRouted, Routed.routing_by}
-use Rattle.world.specs.WorldState.{AreHolders, WorldState}
+use Rattle.holders.specs.Roomed.{HasRoom}
+use Rattle.world.specs.{declared.applied.RoutedPage.RoutedPage, Routed.IsRouted, Routed.routing_by}
+use Rattle.holders.specs.Holding.{AreHolders}
+use Rattle.world.specs.WorldState.{WorldState}
 use Rattle.fetched_pages.specs.{Meaning.document_triples, Meaning.meaning, Meaning.triples_if, Routing.route_if, Routing.route_of_page}
-use Rattle.world.proofs.Pieced.{id_tells}
+use Rattle.holders.proofs.Records.{id_tells}
 use Rattle.splitting.specs.Filling.{AreAmong, HaveEntries, IsReadyFor, entry_in, with_entry}
 use Rattle.splitting.specs.Graphs.{AreEntriesOf}
 use Rattle.splitting.proofs.Following.{get-inserted, held_in}

@@ -11,7 +11,9 @@ use Rattle.subgraph.specs.{Entries.Entries, Entries.graph_triples, Entries.terms
 use Rattle.subgraph.proofs.Routed.{fewer_terms, need_no_more_room}
 use Rattle.world.specs.declared.applied.Outcome.{Outcome}
 use Rattle.world.specs.declared.applied.Outcome.TheVariants.{Same, Stored, Dropped, Sided}
-use Rattle.world.specs.{declared.applied.RoutedPage.RoutedPage, Roomed.room_with, Routed.AreTriplesOf, Routed.GivesPage, Routed.routing_by}
+use Rattle.holders.specs.Roomed.{room_with}
+use Rattle.holdings.specs.Mapped.{AreTriplesOf}
+use Rattle.world.specs.{declared.applied.RoutedPage.RoutedPage, Routed.GivesPage, Routed.routing_by}
 use Rattle.world.specs.WorldState.{WorldState, next_stale, triples_anew, triples_of}
 use Rattle.fetched_pages.specs.Meaning.{meaning}
 use Rattle.splitting.specs.Graphs.{AreEntriesOf, GraphsState, HasRoomAnewIn, HasRoomIn, MayFollow, MayHaveRoom, MayHaveRoomAnew, routes_of}

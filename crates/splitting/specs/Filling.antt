@@ -7,7 +7,8 @@ use Rattle.replay_model.specs.{Records.record_of, Versions.all_by, Versions.mean
 use Rattle.graph_routes.specs.declared.routes.Route.{Route}
 use Rattle.subgraph.specs.{Entries.Entries, Entries.Entry, Laws.entry_held}
 use Rattle.fetched_pages.specs.Meaning.{meaning}
-use Rattle.world.specs.{Roomed.HasRoom, Routed.routing_by, WorldState.WorldState}
+use Rattle.holders.specs.Roomed.{HasRoom}
+use Rattle.world.specs.{Routed.routing_by, WorldState.WorldState}
 
 -- a world between two deliveries: every page is mapped by the version in force, and all that is held has room
 pub record IsReadyFor (world : WorldState) : Type 0 where

@@ -11,7 +11,8 @@ use Rattle.subgraph.specs.{Entries.Entries, Entries.graph_triples, Entries.terms
 use Rattle.subgraph.specs.Split.{entry, graph_of}
 use Rattle.world.specs.declared.applied.Outcome.{Outcome}
 use Rattle.world.specs.declared.applied.Outcome.TheVariants.{Same, Stored, Dropped, Sided}
-use Rattle.world.specs.{declared.applied.RoutedPage.RoutedPage, Routed.routing_by, WorldState.AreHolders, WorldState.WorldState}
+use Rattle.holders.specs.Holding.{AreHolders}
+use Rattle.world.specs.{declared.applied.RoutedPage.RoutedPage, Routed.routing_by, WorldState.WorldState}
 use Rattle.fetched_pages.specs.Meaning.{meaning}
 use Rattle.text_output.specs.{declared.write.Unwritten.Unwritten, declared.write.Unwritten.TheVariants.OutOfMemory, Printing.Output}
 

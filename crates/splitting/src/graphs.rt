@@ -8,8 +8,10 @@ ghost use Rattle.replay_model.specs.Records.{record_of};
 ghost use Rattle.revisions.specs.Revisions.{Contents};
 ghost use Rattle.sorted_sets.specs.Rising.{sorted};
 ghost use Rattle.subgraph.specs.{Entries.graph_triples, Entries.terms_with, Split.entry, Split.graph_of};
-ghost use Rattle.world.specs.{Applying.Applies, Routed.AreTriplesOf, Routed.GivesPage};
-ghost use Rattle.world.specs.WorldState.{AreHolders, WorldState, by_two_after, next_stale, remapped};
+ghost use Rattle.holdings.specs.Mapped.{AreTriplesOf};
+ghost use Rattle.world.specs.{Applying.Applies, Routed.GivesPage};
+ghost use Rattle.holders.specs.Holding.{AreHolders};
+ghost use Rattle.world.specs.WorldState.{WorldState, by_two_after, next_stale, remapped};
 ghost use Rattle.splitting.specs.Graphs.{AreEntriesAfter, AreEntriesAnew, AreThere, Follow, HasRoomAnewIn, HasRoomIn, HaveRoom, HaveRoomAnew, IsSound, IsSoundFor, takes_memory};
 
 use entity_model::EntityId;

@@ -5,8 +5,10 @@ ghost use Rattle.std.specs.List.{AllByRecursion};
 ghost use Rattle.rdf_term.specs.Fit.{HasFitAndShortTerms};
 ghost use Rattle.replay_model.specs.Records.{record_of};
 ghost use Rattle.revisions.specs.Revisions.{Contents};
-ghost use Rattle.world.specs.{Applying.Applies, Routed.AreTriplesOf, Routed.GivesPage};
-ghost use Rattle.world.specs.WorldState.{AreHolders, WorldState, by_two_after, next_stale, remapped};
+ghost use Rattle.holdings.specs.Mapped.{AreTriplesOf};
+ghost use Rattle.world.specs.{Applying.Applies, Routed.GivesPage};
+ghost use Rattle.holders.specs.Holding.{AreHolders};
+ghost use Rattle.world.specs.WorldState.{WorldState, by_two_after, next_stale, remapped};
 ghost use Rattle.splitting.specs.Graphs.{IsSound, MayFollow, MayHaveRoom, MayHaveRoomAnew, NoneIsLost, routes_of, takes_memory};
 
 use crate::graphs::Graphs;

@@ -11,7 +11,8 @@ use Rattle.term_pool.specs.declared.fault.PoolFault.TheVariants.{Full as StoreFu
 use Rattle.fetched_pages.specs.{declared.fetching.FetchedPage.FetchedPage, Fetched.reply_or_any, Reply.IsReply}
 use Rattle.world.specs.{Applying.fault_of_store, declared.applied.WorldFault.WorldFault, Roomed.IsOverfull, Roomed.Overfills}
 use Rattle.world.specs.declared.applied.WorldFault.TheVariants.{Full, OutOfMemory}
-use Rattle.world.specs.WorldState.{HoldingsState, played_of}
+use Rattle.holders.specs.Holding.{HoldingsState}
+use Rattle.world.specs.WorldState.{played_of}
 
 pub store_full : {T : Type 0} (f : PoolFault) (r : Result T WorldFault) → r ≡ Err (fault_of_store f) → r ≡ Err Full → f ≡ StoreFull
 store_full StoreFull r is full = refl

@@ -18,7 +18,8 @@ use Rattle.replay_model.proofs.{PlayedVersions.by_two-event, PlayedVersions.by_t
 use Rattle.replay_model.proofs.Versions.{has-holders, holders-rise}
 use Rattle.world.specs.{declared.applied.AppliedEvent.AppliedEvent, declared.applied.Outcome.Outcome}
 use Rattle.world.specs.declared.applied.Outcome.TheVariants.{Same, Dropped}
-use Rattle.world.specs.{Applying.Applies, Applying.outcome_of_reply, WorldState.AreHolders, WorldState.WorldState, WorldState.by_two_after}
+use Rattle.holders.specs.Holding.{AreHolders}
+use Rattle.world.specs.{Applying.Applies, Applying.outcome_of_reply, WorldState.WorldState, WorldState.by_two_after}
 
 -- one that isn't there is taken out
 without_absent : (x : EntityId) (xs : List EntityId) → has entity_cmp x xs ≡ false → remove_key (eq_by_cmp entity_cmp x) xs ≡ xs

@@ -1,10 +1,10 @@
 -- A record goes in, and what holds of a world goes on holding.
-use Rattle.std.proofs.Common.{◌≡◌, Bool, true, false, cond, not, ◌&&◌, ◌||◌, List, Option, None, Some, Result, Ok, Err, OnErr, is_none, is_some, refl, sym, ◌∙◌, ap, subst, ⊎_elim}
+use Rattle.std.proofs.Common.{◌≡◌, Bool, true, false, cond, not, ◌&&◌, ◌||◌, List, Option, None, Some, is_none, is_some, unwrap_or, refl, sym, ap, subst, ⊎_elim}
 use Rattle.std.specs.FinMap as map
-use Rattle.std.specs.{List.list_any, Ordering.eq_by_cmp}
+use Rattle.std.specs.List.{list_any}
 use Rattle.entity_model.specs.{declared.id.EntityId.EntityId, declared.mapping.MappingVersion.MappingVersion, EntityId.entity_cmp}
 use Rattle.entity_state.specs.{declared.record.Held.Held, declared.record.Record.Record, State.is_kept}
-use Rattle.entity_state.specs.Record.{held_revision, is_held}
+use Rattle.entity_state.specs.Record.{blank, held_revision, is_held}
 use Rattle.entity_json.specs.Document.{unfit_of}
 use Rattle.entity_state.specs.declared.entry.Entry.{Entry}
 use Rattle.replay_model.specs.{Entries.HoldsUnlessOpen, Entries.is_of_revision, Entries.is_open_by, Entries.is_revision_of, Play.Played}
@@ -12,10 +12,8 @@ use Rattle.replay_model.specs.{Records.Bytes, Records.Records, Records.record_of
 use Rattle.replay_model.specs.Versions.{all_by}
 use Rattle.replay_model.proofs.{Settled.settled_by, Versions.all-drop, Versions.all-put}
 use Rattle.sorted_sets.proofs.Bools.{clash}
-use Rattle.triple_store.specs.StoreState.{StoreState, beside}
-use Rattle.world.specs.Keeping.{KeptRecords, record_with, seen}
 use Rattle.world.specs.Restoring.{MayStand, by_two_with, is_accounted_for}
-use Rattle.world.proofs.{Moving.record_elsewhere, Moving.record_here, Pieced.id_tells, Values.values_keys}
+use Rattle.holders.proofs.Records.{record_elsewhere, record_here, id_tells}
 
 -- what holds of each record and of one more holds of each once this one is put in
 each_put : (P : EntityId → Record Bytes → Type 0) (records : Records) (x : EntityId) (r : Record Bytes) → ((y : EntityId) → P y (record_of records y)) → P x r
@@ -73,14 +71,6 @@ put_by_one v records x r = by r.held refl
     by None is = sym (all-drop v records x r (ap is_some is))
     by (Some held) is = sym (all-put v records x r (ap is_some is))
 
--- ---- what is kept
-
--- what holds anyway holds after a fault
-pub on_err : {T E P : Type 0} (r : Result T E) → P → OnErr r P
-on_err (Ok x) p = tt
-on_err (Err e) p = p
-
--- which records there are doesn't need the texts
-pub seen_there : (s : StoreState) (kept : KeptRecords) (x : EntityId) → map.contains_key (seen s kept) x ≡ map.contains_key kept x
-seen_there s kept x =
-    map.contains_key-keys (seen s kept) x ∙ ap (list_any (eq_by_cmp entity_cmp x)) (values_keys (record_with (beside s)) kept) ∙ sym (map.contains_key-keys kept x)
+-- where there is no record there is no document
+pub no_documents : (x : EntityId) → HoldsDocument unfit_of x (record_of map.empty x).held
+no_documents x = subst (λ (r : Record Bytes). HoldsDocument unfit_of x r.held) (sym (ap (λ o. unwrap_or o blank) (map.get-empty entity_cmp x))) tt

@@ -10,7 +10,7 @@ use Rattle.entity_state.specs.declared.entry.Entry.{Entry}
 use Rattle.entity_state.specs.contracts.entry.Entry as entry
 use Rattle.replay_model.specs.{Records.Records, Play.Played, ReplayState.ReplayState}
 use Rattle.reorder_buffer.specs.Buffered.{Buffered}
-use Rattle.world.specs.{Holders.ByVersion, WorldState.HoldingsState, WorldState.WorldState}
+use Rattle.world.specs.WorldState.{WorldState}
 use Rattle.entity_model.specs.contracts.event.Event as event
 
 -- records and side output
@@ -34,20 +34,8 @@ state_code = code_by (Buffered × Played) (coded× buffered_code played_code) (�
 abbrev pub terms_code : Coded (ℕ × (MappingVersion × List EntityId))
 terms_code = coded× coded_ℕ (coded× (mapping_version.the_row).coded (coded_list (entity_id.the_row).coded))
 
--- what is held
-abbrev pub holdings_code : Coded HoldingsState
-holdings_code =
-    code_by (Records × (ℕ × List EntityId)) (coded× (map.code (entity_id.the_row).coded (record_code (coded_list coded_ℕ))) (coded× coded_ℕ (coded_list (entity_id.the_row).coded)))
-    (λ h. (h.records, (h.limit, h.by_two))) (λ c. record { records = c.0; limit = c.1.0; by_two = c.1.1 }) (λ _. refl)
-
 -- all of it
 abbrev pub world_code : Coded WorldState
 world_code =
     code_by (ReplayState × (ℕ × (MappingVersion × List EntityId))) (coded× state_code terms_code)
     (λ w. (w.replay, (w.limit, (w.mapping, w.by_two)))) (λ c. record { replay = c.0; limit = c.1.0; mapping = c.1.1.0; by_two = c.1.1.1 }) (λ _. refl)
-
--- the entities that hold, by version
-abbrev pub holders_code : Coded ByVersion
-holders_code =
-    code_by (List EntityId × List EntityId) (coded× (coded_list (entity_id.the_row).coded) (coded_list (entity_id.the_row).coded))
-    (λ h. (h.by_one, h.by_two)) (λ c. record { by_one = c.0; by_two = c.1 }) (λ _. refl)

@@ -1,24 +1,15 @@
--- How many terms the store needs room for.
-use Rattle.std.specs.Prelude.{◌≡◌, ℕ, true, ◌<◌, ◌≤◌, List, [], ◌++◌, Option, Some, Result, Ok, Err}
-use Rattle.std.specs.List.{flat_map}
-use Rattle.rdf_term.specs.{declared.triple.Triple.Triple, Order.triple_cmp}
+-- Where there is no room for the terms of a page.
+use Rattle.std.specs.Prelude.{◌≡◌, ℕ, true, ◌<◌, List, [], Option, Some, Result, Ok, Err}
+use Rattle.rdf_term.specs.declared.triple.Triple.{Triple}
 use Rattle.entity_model.specs.{declared.id.EntityId.EntityId, declared.event.Event.Event, declared.mapping.MappingVersion.MappingVersion}
 use Rattle.entity_state.specs.{Standing.standing_after, Standing.standing_of, Standing.standing_wants, State.state_after}
 use Rattle.reorder_buffer.specs.Buffered.{first_due}
 use Rattle.revisions.specs.Revisions.{Contents}
 use Rattle.entity_state.specs.declared.entry.Cause.{Cause}
-use Rattle.triple_store.specs.Room.{distinct, terms_of}
-use Rattle.replay_model.specs.{Records.Bytes, Records.Records, Records.record_of, Union.Meaning, Union.union, Versions.meaning_by}
+use Rattle.replay_model.specs.{Records.Bytes, Records.record_of, Versions.meaning_by}
 use Rattle.fetched_pages.specs.{Reply.IsReply, Meaning.meaning}
-use Rattle.world.specs.WorldState.{HoldingsState, WorldState}
-
--- how many distinct terms the triples of all that is held have together with other triples
-abbrev pub room_with : Meaning Triple → Records → List Triple → ℕ
-room_with held records triples = distinct (flat_map terms_of (union triple_cmp held records ++ triples))
-
--- the triples of all that is held have no more distinct terms than there may be
-abbrev pub HasRoom : Meaning Triple → ℕ → Records → Type 0
-HasRoom held limit records = room_with held records [] ≤ limit
+use Rattle.holders.specs.{Holding.HoldingsState, Roomed.room_with}
+use Rattle.world.specs.WorldState.{WorldState}
 
 -- the triples that a reply brings
 abbrev pub triples_of_reply : MappingVersion → EntityId → ℕ → Result Bytes Cause → List Triple

@@ -1,19 +1,18 @@
 -- The graph that a page is routed to, and what is given back of one that was stored or remapped.
 use Rattle.std.specs.Prelude.{◌≡◌, ℕ, ⊤, List, Option, None, Some, Result, Ok, Err, option_map}
-use Rattle.std.specs.List.{AllByRecursion}
-use Rattle.sorted_sets.specs.Rising.{sorted}
-use Rattle.rdf_term.specs.{declared.triple.Triple.Triple, Fit.HasFitAndShortTerms, Order.triple_cmp}
+use Rattle.rdf_term.specs.declared.triple.Triple.{Triple}
 use Rattle.entity_model.specs.{declared.id.EntityId.EntityId, declared.mapping.MappingVersion.MappingVersion}
 use Rattle.entity_state.specs.declared.record.Held.{Held}
-use Rattle.replay_model.specs.{Records.Bytes, Union.triples_held}
+use Rattle.replay_model.specs.Records.{Bytes}
 use Rattle.entity_state.specs.declared.entry.Cause.{Cause}
 use Rattle.graph_routes.specs.declared.routes.Route.{Route}
 use Rattle.world.specs.declared.applied.Outcome.{Outcome}
 use Rattle.world.specs.declared.applied.Outcome.TheVariants.{Same, Stored, Dropped, Sided}
-use Rattle.world.specs.declared.applied.RoutedPage.{RoutedPage}
+use Rattle.holdings.specs.Mapped.{AreTriplesOf}
+use Rattle.world.specs.{declared.applied.RemappedStep.RemappedStep, declared.applied.RoutedPage.RoutedPage}
 use Rattle.fetched_pages.specs.declared.fetching.FetchedPage.{FetchedPage}
 use Rattle.fetched_pages.specs.declared.fetching.FetchedPage.TheVariants.{Whole, Changed}
-use Rattle.fetched_pages.specs.{Meaning.meaning, Routing.route_of_page}
+use Rattle.fetched_pages.specs.Routing.{route_of_page}
 
 -- the graph that the bytes of a revision of x are routed to by these routes
 abbrev pub routing_by : List Route → EntityId → ℕ → Bytes → ℕ
@@ -34,11 +33,6 @@ routed_by None = None
 routed_by (Some (Ok page)) = routed_page page
 routed_by (Some (Err cause)) = None
 
--- the triples are those that what x holds means by this version, though one may stand there twice; their terms are fit and short
-pub record AreTriplesOf (version : MappingVersion) (x : EntityId) (held : Option (Held Bytes)) (triples : List Triple) : Type 0 where
-  pub meant : sorted triple_cmp triples ≡ triples_held (meaning version) x held
-  pub fit : AllByRecursion HasFitAndShortTerms triples
-
 -- x holds this page: the graph that it is routed to, and its triples by this version
 pub record IsRouted (routes : List Route) (version : MappingVersion) (x : EntityId) (h : Held Bytes) (page : RoutedPage) : Type 0 where
   pub graph : page.graph ≡ route_of_page routes x h.content
@@ -52,3 +46,8 @@ GivesPage routes version x Stored (Some h) (Some page) = IsRouted routes version
 GivesPage routes version x Same held page = ⊤
 GivesPage routes version x Dropped held page = ⊤
 GivesPage routes version x (Sided cause) held page = ⊤
+
+-- the entity whose page was remapped, if one was
+abbrev pub entity_of : Option RemappedStep → Option EntityId
+entity_of None = None
+entity_of (Some remapping) = Some remapping.entity

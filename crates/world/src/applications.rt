@@ -6,14 +6,16 @@ ghost use Rattle.reorder_buffer.specs.Buffered.{first_due};
 ghost use Rattle.replay_model.specs.{Records.record_of, Union.triples_held, Versions.meaning_by};
 ghost use Rattle.fetched_pages.specs.{Reply.IsReply, Reply.ShowsReply, Fetched.AreMeant, Fetched.reply_of, Fetched.reply_or_any, Meaning.meaning};
 ghost use Rattle.fetched_pages.specs.Routing.{AreRouted};
-ghost use Rattle.world.specs.{Applying.Applies, Applying.IsShown, Applying.calls_after, Changing.Tells, Refused.MayBeRefused};
-ghost use Rattle.world.specs.{Roomed.HasRoom, Roomed.IsOverfull, Roomed.room_with, Routed.GivesPage};
-ghost use Rattle.world.specs.{WorldState.AreHolders, WorldState.by_two_after, WorldState.stored_of, declared.applied.Outcome.TheVariants.Stored};
+ghost use Rattle.holders.specs.{Changing.Tells, Holding.AreHolders, Roomed.HasRoom, Roomed.room_with};
+ghost use Rattle.world.specs.{Applying.Applies, Applying.IsShown, Applying.calls_after, Refused.MayBeRefused};
+ghost use Rattle.world.specs.{Roomed.IsOverfull, Routed.GivesPage, WorldState.by_two_after, WorldState.stored_of};
+ghost use Rattle.world.specs.declared.applied.Outcome.TheVariants.{Stored};
 ghost use Rattle.world.specs.declared.applied.WorldFault.TheVariants.{Full, Nothing as NothingDue, OutOfMemory as WorldOutOfMemory};
 ghost use Rattle.triple_store.specs.declared.telling.Telling.TheVariants.{Nothing as NoTelling};
 ghost use Rattle.entity_state.specs.{Standing.standing_after, Standing.standing_of, Standing.standing_wants, State.state_after};
 
 use crate::applied::{AppliedEvent, AppliedStep, Handling, WorldFault};
+use crate::applying::apply;
 use crate::world::World;
 use entity_model::Event;
 use fetched_pages::{Beside, Reply, Wanted, fetch};
@@ -111,7 +113,7 @@ impl World {
             version: self.mapping,
             telling,
         };
-        match self.holdings.apply(&mut self.side, event, reply, how) {
+        match apply(&mut self.holdings, &mut self.side, event, reply, how) {
             Ok(effect) => {
                 self.holdings.facts();
                 self.buffer.drop_least();

@@ -63,13 +63,6 @@ pub struct AppliedStep {
     pub routed: Option<RoutedPage>,
 }
 
-/// What is told of how remapping a page changed the stored triples, and the triples of the page then, by their texts.
-#[derive(Drop)]
-pub struct RemappedPage {
-    pub change: Told,
-    pub triples: TripleTexts,
-}
-
 /// An entity whose held page was remapped; what is told of its change of the stored triples; and the triples of the page then, by their
 /// texts, of which one may stand there more than once.
 #[derive(Drop)]

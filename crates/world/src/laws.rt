@@ -9,8 +9,8 @@ ghost use Rattle.revisions.specs.Revisions.{Contents};
 ghost use Rattle.replay_model.specs.{PlayedVersions.by_two_after_event, PlayedVersions.by_two_remapped, Records.Records, Records.record_of};
 ghost use Rattle.replay_model.specs.Versions.{all_by};
 ghost use Rattle.triple_store.specs.declared.telling.Change.{Change};
-ghost use Rattle.world.specs.{declared.applied.AppliedEvent.AppliedEvent, Applying.Applies, Changing.IsChangeOf};
-ghost use Rattle.world.specs.WorldState.{AreHolders, WorldState, by_two_after};
+ghost use Rattle.holders.specs.{Changing.IsChangeOf, Holding.AreHolders};
+ghost use Rattle.world.specs.{declared.applied.AppliedEvent.AppliedEvent, Applying.Applies, WorldState.WorldState, WorldState.by_two_after};
 
 /// The versions by which a world maps its pages are those of the play: an application makes of them what the play says, with the reply
 /// that came; and once every page is mapped by the version in force, they are what the play makes of them at a line that brings this

@@ -10,15 +10,17 @@ ghost use Rattle.replay_model.specs.{Entries.is_of_revision, Replies.HoldsDocume
 ghost use Rattle.replay_model.specs.Versions.{all_by, meaning_by, with_version};
 ghost use Rattle.fetched_pages.specs.Meaning.{meaning};
 ghost use Rattle.world.specs.Restoring.{MayStand, by_two_with, is_accounted_for, restored};
-ghost use Rattle.world.specs.{Refused.HoldsOrIsFirst, Refused.MayRefuseRecord, Roomed.HasRoom, Roomed.room_with, WorldState.AreHolders};
+ghost use Rattle.holders.specs.{Roomed.HasRoom, Roomed.room_with, Holding.AreHolders};
+ghost use Rattle.world.specs.Refused.{HoldsOrIsFirst, MayRefuseRecord};
 ghost use Rattle.world.specs.declared.restoring.RestoreFault.TheVariants.{Full, OutOfMemory as RestoreOutOfMemory, Unsound};
 
-use crate::holdings::Holdings;
 use crate::world::World;
 use entity_model::{EntityId, Event, MappingVersion};
-use entity_state::{Entry, Held, Mode, Record, Side, Standing};
+use entity_state::{Entry, Mode, Record, Side, Standing};
 use fetched_pages::{FetchedPage, Wanted, judge};
+use holdings::Holdings;
 use rdf_term::{OutOfMemory, Text};
+use std::alloc::Global;
 use thiserror::Error;
 use triple_store::{StoreFault, Telling};
 
@@ -85,7 +87,7 @@ impl World {
         if !is_accounted_for(&self.side, id, &entity) {
             return Err(RestoreFault::Unsound);
         }
-        let restored = self.holdings.restore(id, entity, self.mapping);
+        let restored = restore(&mut self.holdings, self.alloc, id, entity, self.mapping);
         self.holdings.facts();
         match restored {
             Ok(()) => Ok(()),
@@ -94,85 +96,86 @@ impl World {
     }
 }
 
-impl Holdings {
-    /// Puts back the record of an entity; the page that it holds is mapped by the version. After a fault nothing has changed. `Unsound` is
-    /// said of a page that is no document of the entity.
-    pub fn restore(
-        &mut self,
-        id: EntityId,
-        entity: Record<Text>,
-        version: MappingVersion,
-    ) -> Result<(), RestoreFault>
-        ensures ok { OnOk result (self.new.records ≡ map.insert self.old.records id entity) }
-        ensures by_two { OnOk result (self.new.by_two ≡ by_two_with version id entity.held self.old.by_two) }
-        ensures document { OnOk result (HoldsDocument unfit_of id entity.held) }
-        ensures document_if_full { IsErrOf result Full → HoldsDocument unfit_of id entity.held }
-        ensures unsound { IsErrOf result Unsound → ¬ (HoldsDocument unfit_of id entity.held) }
-        ensures refused { IsErrOf result RestoreOutOfMemory → HoldsOrIsFirst self.old.records id entity.held }
-        ensures limit { self.new.limit ≡ self.old.limit }
-        ensures full { IsErrOf result Full → self.old.limit < room_with (meaning_by meaning self.old.by_two) self.old.records (triples_held (meaning version) id entity.held) }
-        ensures within { OnOk result (room_with (meaning_by meaning self.old.by_two) self.old.records (triples_held (meaning version) id entity.held) ≤ self.old.limit) }
-        ensures err { OnErr result (self.new ≡ self.old) }
-    {
-        let Record {
-            state,
-            held,
-            reconciled,
-        } = entity;
-        let after = Standing {
-            state,
-            held: None,
-            reconciled,
-        };
-        match held {
-            Some(held) => self.restore_page(id, after, held, version),
-            None => {
-                self.facts();
-                match self.release(id, after, Telling::Nothing) {
-                    Ok(_) => Ok(()),
-                    Err(OutOfMemory) => Err(RestoreFault::OutOfMemory),
-                }
+// Puts back the record of an entity; the page that it holds is mapped by the version. After a fault nothing has changed. `Unsound` is
+// said of a page that is no document of the entity.
+fn restore(
+    holdings: &mut Holdings,
+    alloc: Global,
+    id: EntityId,
+    entity: Record<Text>,
+    version: MappingVersion,
+) -> Result<(), RestoreFault>
+    ensures ok { OnOk result (holdings.new.records ≡ map.insert holdings.old.records id entity) }
+    ensures by_two { OnOk result (holdings.new.by_two ≡ by_two_with version id entity.held holdings.old.by_two) }
+    ensures document { OnOk result (HoldsDocument unfit_of id entity.held) }
+    ensures document_if_full { IsErrOf result Full → HoldsDocument unfit_of id entity.held }
+    ensures unsound { IsErrOf result Unsound → ¬ (HoldsDocument unfit_of id entity.held) }
+    ensures refused { IsErrOf result RestoreOutOfMemory → HoldsOrIsFirst holdings.old.records id entity.held }
+    ensures limit { holdings.new.limit ≡ holdings.old.limit }
+    ensures full { IsErrOf result Full → holdings.old.limit < room_with (meaning_by meaning holdings.old.by_two) holdings.old.records (triples_held (meaning version) id entity.held) }
+    ensures within { OnOk result (room_with (meaning_by meaning holdings.old.by_two) holdings.old.records (triples_held (meaning version) id entity.held) ≤ holdings.old.limit) }
+    ensures err { OnErr result (holdings.new ≡ holdings.old) }
+{
+    let Record {
+        state,
+        held,
+        reconciled,
+    } = entity;
+    let after = Standing {
+        state,
+        held: None,
+        reconciled,
+    };
+    match held {
+        Some(held) => {
+            let wanted = Wanted {
+                id,
+                rev: held.revision,
+                version,
+            };
+            restore_page(holdings, alloc, wanted, after, held.content)
+        }
+        None => {
+            holdings.facts();
+            match holdings.release(id, after, Telling::Nothing) {
+                Ok(_) => Ok(()),
+                Err(OutOfMemory) => Err(RestoreFault::OutOfMemory),
             }
         }
     }
+}
 
-    // Puts back the record of an entity that holds a page; its state may be of another revision, whose fetch gave no document.
-    fn restore_page(
-        &mut self,
-        id: EntityId,
-        after: Standing,
-        held: Held<Text>,
-        version: MappingVersion,
-    ) -> Result<(), RestoreFault>
-        ensures ok { OnOk result (self.new.records ≡ map.insert self.old.records id (record { state = after.state; held = Some held; reconciled = after.reconciled })) }
-        ensures by_two { OnOk result (self.new.by_two ≡ with_version version id self.old.by_two) }
-        ensures document { OnOk result (unfit_of id held.content ≡ None) }
-        ensures document_if_full { IsErrOf result Full → unfit_of id held.content ≡ None }
-        ensures unsound { IsErrOf result Unsound → unfit_of id held.content ≢ None }
-        ensures limit { self.new.limit ≡ self.old.limit }
-        ensures full { IsErrOf result Full → self.old.limit < room_with (meaning_by meaning self.old.by_two) self.old.records (meaning version id held.revision held.content) }
-        ensures within { OnOk result (room_with (meaning_by meaning self.old.by_two) self.old.records (meaning version id held.revision held.content) ≤ self.old.limit) }
-        ensures err { OnErr result (self.new ≡ self.old) }
-    {
-        let wanted = Wanted {
-            id,
-            rev: held.revision,
-            version,
-        };
-        match judge(self.alloc, wanted, bytes_of(held.content), None) {
-            Ok(Ok(page)) => {
-                let page = FetchedPage::Whole(page);
-                let done = self.hold(wanted, after, &page, Telling::Nothing);
-                drop(page);
-                match done {
-                    Ok(_) => Ok(()),
-                    Err(StoreFault::Full) => Err(RestoreFault::Full),
-                    Err(StoreFault::OutOfMemory) => Err(RestoreFault::OutOfMemory),
-                }
+// Puts back the record of an entity that holds a page; its state may be of another revision, whose fetch gave no document.
+fn restore_page(
+    holdings: &mut Holdings,
+    alloc: Global,
+    wanted: Wanted,
+    after: Standing,
+    content: Text,
+) -> Result<(), RestoreFault>
+    ensures ok { OnOk result (holdings.new.records ≡ map.insert holdings.old.records wanted.id (record { state = after.state; held = Some (record { revision = wanted.rev; content = content }); reconciled = after.reconciled })) }
+    ensures by_two { OnOk result (holdings.new.by_two ≡ with_version wanted.version wanted.id holdings.old.by_two) }
+    ensures document { OnOk result (unfit_of wanted.id content ≡ None) }
+    ensures document_if_full { IsErrOf result Full → unfit_of wanted.id content ≡ None }
+    ensures unsound { IsErrOf result Unsound → unfit_of wanted.id content ≢ None }
+    ensures limit { holdings.new.limit ≡ holdings.old.limit }
+    ensures full { IsErrOf result Full → holdings.old.limit < room_with (meaning_by meaning holdings.old.by_two) holdings.old.records (meaning wanted.version wanted.id wanted.rev content) }
+    ensures within { OnOk result (room_with (meaning_by meaning holdings.old.by_two) holdings.old.records (meaning wanted.version wanted.id wanted.rev content) ≤ holdings.old.limit) }
+    ensures err { OnErr result (holdings.new ≡ holdings.old) }
+{
+    match judge(alloc, wanted, bytes_of(content), None) {
+        Ok(Ok(page)) => {
+            let page = FetchedPage::Whole(page);
+            let done = holdings.hold(wanted, after, &page, Telling::Nothing);
+            drop(page);
+            match done {
+                Ok(_) => Ok(()),
+                Err(StoreFault::Full) => Err(RestoreFault::Full),
+                Err(StoreFault::OutOfMemory) => Err(RestoreFault::OutOfMemory),
             }
-            Ok(Err(_)) => Err(RestoreFault::Unsound),
-            Err(OutOfMemory) => Err(RestoreFault::OutOfMemory),
         }
+        Ok(Err(_)) => Err(RestoreFault::Unsound),
+        Err(OutOfMemory) => Err(RestoreFault::OutOfMemory),
     }
 }
 

@@ -1,19 +1,15 @@
 // The triples of all that is held, or of what one entity holds, in their order, and the number of the owners of each.
 
 ghost use Rattle.std.specs.Prelude.{◌≡◌, length, IfOk};
-ghost use Rattle.std.specs.FinMap as map;
 ghost use Rattle.std.specs.List.{AllByRecursion};
-ghost use Rattle.rdf_term.specs.{declared.triple.Triple.Triple as TheTriple, Fit.HasFitAndShortTerms, Order.triple_cmp, Pattern.rows};
+ghost use Rattle.rdf_term.specs.{Fit.HasFitAndShortTerms, Order.triple_cmp, Pattern.rows};
 ghost use Rattle.replay_model.specs.{Records.record_of, Union.owners, Union.triples_held, Union.union, Versions.meaning_by};
-ghost use Rattle.triple_store.specs.{Counts.count_of, StoreState.counts_in};
 ghost use Rattle.fetched_pages.specs.Meaning.{meaning};
 
-use crate::holdings::Holdings;
-use crate::kept::keys_of;
 use crate::world::World;
 use entity_model::EntityId;
 use rdf_term::{OutOfMemory, Pattern, Triple, TripleSet};
-use triple_store::{Rows, Store, Uncounted};
+use triple_store::{Rows, Uncounted};
 
 impl World {
     /// The triples of all that is held. Their terms are fit and short.
@@ -67,23 +63,5 @@ impl World {
         ensures { result ≡ length (rows (union triple_cmp (meaning_by meaning self.now.by_two) self.now.replay.played.records) pattern.now) }
     {
         self.holdings.store().matching_len(pattern, &mut Uncounted)
-    }
-}
-
-impl Holdings {
-    /// The store, which has the triples of all that is held, each with the number of its owners.
-    pub fn store(&self) -> &Store
-        ensures triples { map.keys (counts_in result.now) ≡ union triple_cmp (meaning_by meaning self.now.by_two) self.now.records }
-        ensures counts { (triple : TheTriple) → count_of (counts_in result.now) triple ≡ owners triple_cmp (meaning_by meaning self.now.by_two) self.now.records triple }
-    {
-        &self.store
-    }
-
-    /// The triples of what an entity holds, in memory of their own.
-    pub fn triples_of(&self, id: EntityId) -> Result<TripleSet, OutOfMemory>
-        ensures { IfOk result (λ set. set ≡ triples_held (meaning_by meaning self.now.by_two) id (record_of self.now.records id).held) }
-    {
-        let rows = self.store.rows_of(keys_of(&self.table, id))?;
-        rows.to_set(self.alloc)
     }
 }

@@ -1,15 +1,15 @@
 // By which version of the mapping the held pages are mapped, and how one is mapped by another.
 
-ghost use Rattle.std.specs.Prelude.{◌≡◌, ◌<◌, ◌≤◌, ◌+◌, true, None, IfOk, IfSome, IsErrOf, IsOk, OnErr, OnOk, length};
-ghost use Rattle.replay_model.specs.{Records.record_of, Versions.all_by, Versions.is_holder, Versions.meaning_by};
+ghost use Rattle.std.specs.Prelude.{◌≡◌, ◌<◌, ◌≤◌, ◌+◌, None, IfOk, IfSome, IsErrOf, IsOk, OnErr, OnOk, length};
+ghost use Rattle.replay_model.specs.{Records.record_of, Versions.all_by, Versions.meaning_by};
 ghost use Rattle.fetched_pages.specs.Meaning.{meaning};
-ghost use Rattle.world.specs.{Changing.Tells, Changing.entity_of, Roomed.HasRoom, Roomed.room_with, Routed.AreTriplesOf};
-ghost use Rattle.world.specs.WorldState.{AreHolders, first_of, held_version, next_stale, remapped, stale, stale_by, stored_of, triples_anew, version_in};
+ghost use Rattle.holders.specs.{Changing.Tells, Holding.AreHolders, Roomed.HasRoom, Roomed.room_with};
+ghost use Rattle.holdings.specs.Mapped.{AreTriplesOf};
+ghost use Rattle.world.specs.Routed.{entity_of};
+ghost use Rattle.world.specs.WorldState.{held_version, next_stale, remapped, stale, stored_of, triples_anew};
 ghost use Rattle.world.specs.declared.applied.WorldFault.TheVariants.{Full, Nothing as NothingDue};
 
 use crate::applied::{RemappedStep, WorldFault};
-use crate::holders::other;
-use crate::holdings::Holdings;
 use crate::world::World;
 use entity_model::{EntityId, MappingVersion};
 use triple_store::Telling;
@@ -107,36 +107,5 @@ impl World {
             change: remapped.change,
             triples: remapped.triples,
         }))
-    }
-}
-
-impl Holdings {
-    /// The version by which the held page of an entity is mapped, if it holds one.
-    pub fn held_version(&self, id: EntityId) -> Option<MappingVersion>
-        ensures { result ≡ version_in self.now.by_two self.now.records id }
-    {
-        if self.holders.has(id, MappingVersion::Two) {
-            Some(MappingVersion::Two)
-        } else if self.holders.has(id, MappingVersion::One) {
-            Some(MappingVersion::One)
-        } else {
-            None
-        }
-    }
-
-    /// The least entity whose held page is mapped by another version than this one.
-    pub fn next_stale(&self, version: MappingVersion) -> Option<EntityId>
-        ensures entity { result ≡ first_of (stale_by version self.now.by_two self.now.records) }
-        ensures holder { IfSome result (λ entity. is_holder self.now.records entity ≡ true) }
-    {
-        self.holders.least(other(version))
-    }
-
-    /// How many such entities there are.
-    pub fn stale(&self, version: MappingVersion) -> usize
-        ensures count { result ≡ length (stale_by version self.now.by_two self.now.records) }
-        ensures none { result ≡ 0 → self.now.by_two ≡ all_by version self.now.records }
-    {
-        self.holders.len(other(version))
     }
 }

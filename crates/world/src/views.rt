@@ -8,7 +8,8 @@ ghost use Rattle.entity_model.specs.declared.id.EntityId.{EntityId as AnEntity};
 ghost use Rattle.reorder_buffer.specs.Buffered.{first_due};
 ghost use Rattle.replay_model.specs.{Entries.HoldsUnlessOpen, Entries.is_open_in, Records.record_of, Replies.HoldsDocument, Versions.meaning_by};
 ghost use Rattle.fetched_pages.specs.Meaning.{meaning};
-ghost use Rattle.world.specs.{Laid.IsLaid, Roomed.room_with};
+ghost use Rattle.holders.specs.Roomed.{room_with};
+ghost use Rattle.holdings.specs.Laid.{IsLaid};
 
 use crate::world::World;
 use entity_model::{EntityId, Event};

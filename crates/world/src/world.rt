@@ -9,9 +9,9 @@ ghost use Rattle.replay_model.specs.ReplayState.{after_end, after_event, after_m
 ghost use Rattle.entity_model.specs.declared.mapping.MappingVersion.TheVariants.{One};
 ghost use Rattle.rdf_term.specs.Limits.{default_max_terms};
 
-use crate::holdings::Holdings;
 use entity_model::{Event, MappingVersion};
 use entity_state::{Entry, Side};
+use holdings::Holdings;
 use rdf_term::{DEFAULT_MAX_TERMS, OutOfMemory};
 use reorder_buffer::{Buffer, Taken};
 use std::alloc::Global;
@@ -33,8 +33,8 @@ pub struct World {
 impl Model for World {
     ghost use Rattle.replay_model.specs.{Entries.HoldsUnlessOpen, Records.record_of, Replies.HoldsDocument, Versions.meaning_by};
     ghost use Rattle.fetched_pages.specs.Meaning.{meaning};
-    ghost use Rattle.world.specs.{Codes.world_code, Roomed.HasRoom};
-    ghost use Rattle.world.specs.WorldState.{AreHolders, WorldState, played_of};
+    ghost use Rattle.world.specs.{Codes.world_code, WorldState.WorldState, WorldState.played_of};
+    ghost use Rattle.holders.specs.{Holding.AreHolders, Roomed.HasRoom};
     ghost use Rattle.entity_json.specs.Document.{unfit_of};
     ghost use Rattle.entity_model.specs.declared.id.EntityId.{EntityId};
 

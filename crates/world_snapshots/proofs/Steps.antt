@@ -15,8 +15,10 @@ use Rattle.reorder_buffer.specs.{Watermarks.reached, Buffered.after_taking}
 use Rattle.replay_model.specs.{Records.Bytes, Replies.failed_event, Replies.failed_events, Play.nothing_played}
 use Rattle.replay_model.specs.ReplayState.{ReplayState, nothing_delivered}
 use Rattle.replay_model.specs.Versions.{all_by, is_holder, meaning_by}
-use Rattle.world.specs.{Restoring.MayStand, Restoring.restored, Roomed.HasRoom, WorldState.WorldState}
-use Rattle.world.proofs.{PuttingIn.documents_put, Starting.no_documents, Rooming.nothing_held}
+use Rattle.holders.specs.Roomed.{HasRoom}
+use Rattle.world.specs.{Restoring.MayStand, Restoring.restored, WorldState.WorldState}
+use Rattle.holders.proofs.Rooming.{nothing_held}
+use Rattle.world.proofs.PuttingIn.{documents_put, no_documents}
 use Rattle.fetched_pages.specs.Meaning.{meaning}
 use Rattle.snapshot.specs.{declared.line.Head.Head, Whole.beginning, Whole.noting, declared.counts.Counts.Counts}
 use Rattle.checkpoint.specs.declared.stage.Stage.TheVariants.{Unbegun, Begun}

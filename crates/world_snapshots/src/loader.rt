@@ -4,7 +4,8 @@ ghost use Rattle.std.specs.Prelude.{◌≡◌, ◌↔◌, ℕ, ◌-◌, ◌≤�
 ghost use Rattle.replay_model.specs.{Play.nothing_played, ReplayState.nothing_delivered, ReplayState.nothing_delivered_within};
 ghost use Rattle.replay_model.specs.Versions.{all_by, meaning_by};
 ghost use Rattle.fetched_pages.specs.Meaning.{meaning};
-ghost use Rattle.world.specs.{Roomed.HasRoom, Restoring.MayStand, Restoring.restored};
+ghost use Rattle.holders.specs.Roomed.{HasRoom};
+ghost use Rattle.world.specs.Restoring.{MayStand, restored};
 ghost use Rattle.snapshot.specs.{declared.line.Line.TheVariants.Entity, Waiting.at_mark, Whole.after_line, Whole.beginning, Whole.noting};
 ghost use Rattle.reorder_buffer.specs.Watermarks.{reached};
 ghost use Rattle.checkpoint.specs.Loading.{HasNoRoomForLine, IsOutOfPlace, IsReady, LacksRoom, MayCome, loading_of, may_note};

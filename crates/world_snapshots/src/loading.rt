@@ -7,7 +7,8 @@ ghost use Rattle.entity_model.specs.{Event.event_cmp, declared.event.Event.Event
 ghost use Rattle.replay_model.specs.{Explained.is_applied, Replies.failed_events, Versions.meaning_by};
 ghost use Rattle.sorted_sets.specs.Rising.{has};
 ghost use Rattle.fetched_pages.specs.Meaning.{meaning};
-ghost use Rattle.world.specs.{Roomed.HasRoom, WorldState.WorldState};
+ghost use Rattle.holders.specs.Roomed.{HasRoom};
+ghost use Rattle.world.specs.WorldState.{WorldState};
 ghost use Rattle.snapshot.specs.declared.line.Line.{Line as ALine};
 ghost use Rattle.snapshot.specs.{File.saved_in_bytes, LineText.line_of, Whole.whole};
 ghost use Rattle.checkpoint.specs.Causes.{HasCause};

@@ -17,7 +17,7 @@ use Rattle.replay_model.specs.Records.{Records}
 use Rattle.replay_model.specs.Versions.{all_by, holders, is_holder, version_at, with_version}
 use Rattle.replay_model.proofs.{Deliveries.due-kept, Deliveries.due-told, DueParts.due-end, DueParts.due-watermark}
 use Rattle.replay_model.proofs.PlayedRecords.{records-played, records_of}
-use Rattle.world.specs.WorldState.{differ, stale_by}
+use Rattle.holders.specs.Holding.{differ, stale_by}
 use Rattle.replica.specs.declared.record.PatchRecord.{PatchRecord}
 use Rattle.patch_stream.specs.Stream.{Step, is_change, steps_anew, steps_applied, steps_of_play, steps_remapped, steps_to_end, stream}
 use Rattle.patch_stream.proofs.Streams.{steps-push}

@@ -23,7 +23,7 @@ use Rattle.replay_model.proofs.{Arrivals.play-push, InForce.version-kept, InForc
 use Rattle.replay_model.proofs.PlayedVersions.{by_two-remapped}
 use Rattle.replay_model.proofs.Versions.{has-holders, holders-rise, union-all, version-all}
 use Rattle.fetched_pages.specs.Meaning.{meaning}
-use Rattle.world.specs.WorldState.{differ, stale_by}
+use Rattle.holders.specs.Holding.{differ, stale_by}
 use Rattle.world.proofs.Fit.{union_fit}
 use Rattle.written_laws.specs.Laws.{BeginsAt, IsChain}
 use Rattle.patch_stream.specs.Stream.{Step, step, steps_anew, steps_applied, steps_at, steps_of_play, steps_remapped, steps_to_end}

@@ -20,7 +20,8 @@ use Rattle.replay_model.specs.{Records.Bytes, Records.Records, ReplayState.Repla
 use Rattle.replay_model.specs.{Union.Meaning, Union.triples_at, Union.triples_held, Union.union, Versions.meaning_by}
 use Rattle.replay_model.proofs.{Versions.union-all, ToldContents.Each-append}
 use Rattle.fetched_pages.specs.Meaning.{meaning}
-use Rattle.world.specs.{Roomed.room_with, WorldState.WorldState}
+use Rattle.holders.specs.Roomed.{room_with}
+use Rattle.world.specs.WorldState.{WorldState}
 use Rattle.snapshot.specs.declared.line.Line.{Line}
 use Rattle.snapshot.specs.declared.line.Line.TheVariants.{Head as Begins, Remembered, Entity, Side, End}
 use Rattle.snapshot.specs.LineText.{line_of}

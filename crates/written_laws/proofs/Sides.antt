@@ -15,7 +15,7 @@ use Rattle.replay_model.specs.Play.{Played, Replies, apply, newly_due, play}
 use Rattle.replay_model.specs.{Records.Bytes, Records.Records, Union.triples_at, Union.triples_held, Union.union}
 use Rattle.replay_model.specs.Versions.{all_by, version_at, with_version}
 use Rattle.replay_model.proofs.{DueParts.due-end, DueParts.due-watermark, ToldContents.Each-append}
-use Rattle.world.specs.WorldState.{stale_by}
+use Rattle.holders.specs.Holding.{stale_by}
 use Rattle.meaning_texts.proofs.Few.{meaning_few}
 use Rattle.patch_stream.specs.Stream.{steps_applied, steps_at, steps_of_play, steps_remapped, steps_to_end}
 use Rattle.patch_stream.proofs.Streams.{steps-push}

@@ -2,7 +2,8 @@
 
 ghost use Rattle.std.specs.Prelude.{◌≡◌, ◌≢◌, ℕ, List, ◌<◌, [], Some, length, take};
 ghost use Rattle.fetched_pages.specs.Meaning.{meaning};
-ghost use Rattle.world.specs.{WorldState.WorldState, Roomed.room_with};
+ghost use Rattle.holders.specs.Roomed.{room_with};
+ghost use Rattle.world.specs.WorldState.{WorldState};
 ghost use Rattle.snapshot.specs.{File.IsFitSaved, File.file_text, File.saved_in_bytes, Waiting.IsAtRest, Whole.Saved, declared.counts.Counts.Counts as TheCounts};
 ghost use Rattle.checkpoint.specs.{Causes.IsFileOverfull, Causes.IsNoSnapshot, Loading.IsLoadable, Saved.saved_of, Saved.world_of};
 ghost use Rattle.replay_model.specs.Versions.{all_by, meaning_by};

@@ -3,7 +3,7 @@ use Rattle.std.proofs.Common.{◌≡◌, ◌∙◌, ap, sym, refl, Some}
 use Rattle.std.specs.FinMap.{len-empty}
 use Rattle.arguments.specs.declared.plan.Plan.TheVariants.{Drill, Follow}
 use Rattle.replay_model.specs.Play.{nothing_played}
-use Rattle.world.proofs.Rooming.{nothing_held}
+use Rattle.holders.proofs.Rooming.{nothing_held}
 use Rattle.run_model.proofs.FromNothing.{still_nothing}
 use Rattle.session.specs.Plans.{IsUnbegun}
 use Rattle.session.proofs.Plans.{for_plan}

@@ -1,7 +1,7 @@
 -- The world stays empty, and what the follower leaves.
 use Rattle.std.specs.FinMap.{len-empty}
 use Rattle.replay_model.specs.Play.{nothing_played}
-use Rattle.world.proofs.Rooming.{nothing_held}
+use Rattle.holders.proofs.Rooming.{nothing_held}
 use Rattle.run_model.proofs.Ongoing.{followed_on}
 use Rattle.session.proofs.Plans.{follow_stopped}
 use Rattle.session.proofs.records.follow_records.Goals as goal

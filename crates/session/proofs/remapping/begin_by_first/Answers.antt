@@ -1,7 +1,8 @@
 -- Whoever is named as mapped by version Two holds a page, and nobody does.
 use Rattle.std.proofs.Common.{◌∙◌, ap, subst}
 use Rattle.replay_model.specs.ReplayState.{ReplayState}
-use Rattle.world.specs.WorldState.{AreHolders, WorldState}
+use Rattle.holders.specs.Holding.{AreHolders}
+use Rattle.world.specs.WorldState.{WorldState}
 use Rattle.world.proofs.OneVersion.{none_named}
 use Rattle.session.proofs.remapping.begin_by_first.Goals as goal
 

@@ -3,7 +3,8 @@ use Rattle.std.proofs.Common.{◌≡◌, ◌<◌, length, refl, sym, subst, ap, 
 use Rattle.std.proofs.lemmas.Result.{err_from_is_err_and}
 use Rattle.splitting.specs.Graphs.{MayFollow}
 use Rattle.splitting.proofs.{Fresh.follow_same, Roomed.may_have_room_anew}
-use Rattle.world.specs.WorldState.{AreHolders, WorldState, stale}
+use Rattle.holders.specs.Holding.{AreHolders}
+use Rattle.world.specs.WorldState.{WorldState, stale}
 use Rattle.term_pool.specs.declared.fault.PoolFault.TheVariants.{Full, OutOfMemory}
 use Rattle.run_model.proofs.Pages.{told_all, told_before, told_but_last, told_next, told_none}
 use Rattle.run_model.proofs.Reports.{never_unprinted, still_silent}

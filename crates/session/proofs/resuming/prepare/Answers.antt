@@ -2,7 +2,7 @@
 use Rattle.std.proofs.Common.{refl}
 use Rattle.std.specs.FinMap.{len-empty}
 use Rattle.replay_model.specs.Play.{nothing_played}
-use Rattle.world.proofs.Rooming.{nothing_held}
+use Rattle.holders.proofs.Rooming.{nothing_held}
 use Rattle.run_model.proofs.FromNothing.{still_nothing}
 use Rattle.session.proofs.resuming.prepare.Goals as goal
 

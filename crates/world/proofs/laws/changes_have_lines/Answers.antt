@@ -1,5 +1,5 @@
 -- A side without lines has no triples, and lists with the same triples are the same.
-use Rattle.world.proofs.Changing.{lines_tell}
+use Rattle.holders.proofs.Changing.{lines_tell}
 use Rattle.world.proofs.laws.changes_have_lines.Goals as goal
 
 pub returns : goal.returns

@@ -1,5 +1,5 @@
 -- An application keeps what is held in step with the side output, and what it stores has room.
-use Rattle.std.proofs.Common.{◌≤◌, List, Err, option_copied, refl, ap, subst, sym, ◌∙◌}
+use Rattle.std.proofs.Common.{◌≤◌, List, Err, option_copied, ap, subst, sym, ◌∙◌}
 use Rattle.rdf_term.specs.declared.triple.Triple.{Triple}
 use Rattle.entity_json.specs.Document.{unfit_of}
 use Rattle.entity_model.specs.declared.id.EntityId.{EntityId}
@@ -7,9 +7,11 @@ use Rattle.replay_model.specs.{Entries.HoldsUnlessOpen, Play.Played, Records.rec
 use Rattle.replay_model.specs.Versions.{meaning_by}
 use Rattle.replay_model.proofs.{Documents.documents-apply, Settled.holds-apply}
 use Rattle.fetched_pages.specs.{Fetched.reply_or_any, Meaning.meaning}
-use Rattle.world.specs.{Roomed.room_with, WorldState.played_of}
+use Rattle.holders.specs.Roomed.{room_with}
+use Rattle.world.specs.WorldState.{played_of}
 use Rattle.fetched_pages.proofs.Fit.{reply_gives}
-use Rattle.world.proofs.{DueEvent.overfull, DueEvent.store_full, DueEvent.store_refused, Giving.page_given, Rooming.stored_page, Shown.outcome_calls, Shown.outcome_shown}
+use Rattle.world.proofs.{DueEvent.overfull, DueEvent.store_full, DueEvent.store_refused, Giving.page_given, Giving.stored_page}
+use Rattle.world.proofs.Shown.{outcome_calls, outcome_shown}
 use Rattle.world.proofs.world.World.apply_next_with.Goals as goal
 
 pub invariant_of-self : goal.invariant_of-self
@@ -37,7 +39,7 @@ returns-in-Ok-apply-clause-change g c = rw (← c.self.view_is) c.in-Ok-apply.en
 
 pub returns-in-Ok-apply-clause-routed : goal.returns-in-Ok-apply-clause-routed
 returns-in-Ok-apply-clause-routed g c = rw (← c.self.view_is)
-    (page_given (option_copied c.args.routes) c.self.inside.holdings.by_two c.self.inside.mapping (played_of c.self.inside.holdings c.self.inside.side.entries) (played_of c.apply.new.self c.apply.new.side.entries) c.in-Some.event c.in-Ok.reply
+    (page_given (option_copied c.args.routes) c.self.inside.holdings.by_two c.self.inside.mapping (played_of c.self.inside.holdings c.self.inside.side.entries) (played_of c.apply.new.holdings c.apply.new.side.entries) c.in-Some.event c.in-Ok.reply
     c.in-Ok-apply.effect.outcome c.in-Ok-apply.effect.routed (rw (← c.self.view_is) at c.in-Ok.ensures.meant) c.in-Ok.ensures.routed c.in-Ok-apply.ensures.applied c.in-Ok-apply.ensures.outcome c.in-Ok-apply.ensures.routed)
 
 pub returns-in-Ok-apply-clause-shown : goal.returns-in-Ok-apply-clause-shown

@@ -4,7 +4,8 @@ use Rattle.std.specs.FinMap.{len-empty}
 use Rattle.replay_model.specs.{Play.nothing_played, Versions.meaning_by}
 use Rattle.replay_model.proofs.Settled.{holds-nothing}
 use Rattle.fetched_pages.specs.Meaning.{meaning}
-use Rattle.world.proofs.{Rooming.nothing_held, Starting.no_documents}
+use Rattle.holders.proofs.Rooming.{nothing_held}
+use Rattle.world.proofs.PuttingIn.{no_documents}
 use Rattle.world.proofs.world.World.new.Goals as goal
 use Rattle.rdf_term.specs.Limits.{default_max_terms}
 

@@ -3,8 +3,8 @@ use Rattle.std.proofs.Common.{◌≡◌, ◌+◌, Some, length, sym, subst, ◌�
 use Rattle.entity_model.specs.declared.id.EntityId.{EntityId}
 use Rattle.entity_json.specs.Document.{unfit_of}
 use Rattle.replay_model.specs.{Entries.HoldsUnlessOpen, Records.Records, Records.record_of, Replies.HoldsDocument}
-use Rattle.world.specs.WorldState.{stale_by}
-use Rattle.world.proofs.ByVersion.{fewer}
+use Rattle.holders.specs.Holding.{stale_by}
+use Rattle.holders.proofs.ByVersion.{fewer}
 use Rattle.world.proofs.world.World.remap_next_with.Goals as goal
 
 pub invariant_of-self-2 : goal.invariant_of-self-2

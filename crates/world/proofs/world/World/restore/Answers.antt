@@ -3,7 +3,8 @@ use Rattle.std.proofs.Common.{rules, ◌≡◌, true, sym, ap, subst, ◌∙◌}
 use Rattle.entity_json.specs.Document.{unfit_of}
 use Rattle.entity_model.specs.declared.id.EntityId.{EntityId}
 use Rattle.replay_model.specs.{Entries.HoldsUnlessOpen, Records.Records, Records.record_of, Replies.HoldsDocument, Versions.all_by}
-use Rattle.world.specs.{Restoring.by_two_with, Restoring.is_accounted_for, WorldState.HoldingsState, WorldState.played_of}
+use Rattle.holders.specs.Holding.{HoldingsState}
+use Rattle.world.specs.{Restoring.by_two_with, Restoring.is_accounted_for, WorldState.played_of}
 use Rattle.world.proofs.PuttingIn.{documents_put, holds_put, put_by_one, accounted_stands}
 use Rattle.world.proofs.world.World.restore.Goals.{in-Ok, in-Err}
 use Rattle.world.proofs.world.World.restore.Goals as goal

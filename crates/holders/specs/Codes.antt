@@ -1,0 +1,21 @@
+-- How what is held is stored as a value, so that contracts can tell it apart.
+use Rattle.std.specs.Prelude.{ℕ, List, refl}
+use Rattle.std.specs.Coded.{Coded, code_by, coded×, coded_ℕ, coded_list}
+use Rattle.std.specs.FinMap as map
+use Rattle.entity_model.specs.declared.id.EntityId.{EntityId}
+use Rattle.entity_model.specs.contracts.id.EntityId as entity_id
+use Rattle.entity_state.specs.Tabled.{record_code}
+use Rattle.replay_model.specs.Records.{Records}
+use Rattle.holders.specs.{Holders.ByVersion, Holding.HoldingsState}
+
+-- what is held
+abbrev pub holdings_code : Coded HoldingsState
+holdings_code =
+    code_by (Records × (ℕ × List EntityId)) (coded× (map.code (entity_id.the_row).coded (record_code (coded_list coded_ℕ))) (coded× coded_ℕ (coded_list (entity_id.the_row).coded)))
+    (λ h. (h.records, (h.limit, h.by_two))) (λ c. record { records = c.0; limit = c.1.0; by_two = c.1.1 }) (λ _. refl)
+
+-- the entities that hold, by version
+abbrev pub holders_code : Coded ByVersion
+holders_code =
+    code_by (List EntityId × List EntityId) (coded× (coded_list (entity_id.the_row).coded) (coded_list (entity_id.the_row).coded))
+    (λ h. (h.by_one, h.by_two)) (λ c. record { by_one = c.0; by_two = c.1 }) (λ _. refl)

@@ -1,0 +1,10 @@
+pub mod Anew
+pub mod Exchanging
+pub mod Laying
+pub mod Moving
+pub mod OneSet
+pub mod Replacing
+pub mod Rooming
+pub mod Starting
+pub mod Stepping
+pub mod Timing
