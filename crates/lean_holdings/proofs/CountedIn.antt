@@ -16,9 +16,9 @@ use Rattle.replay_model.specs.Versions.{meaning_by}
 use Rattle.fetched_pages.specs.Meaning.{meaning}
 use Rattle.shared_triples.specs.Lean.{IsLean, count_in, stored_of, triples_of}
 use Rattle.entity_counts.specs.Naming.{Naming, counted_in, is_counted}
-use Rattle.lean_holdings.specs.{Going.CountsIn, Holding.IsKept, Holding.counted_by, InStep.AreHolders, InStep.AreInStep}
+use Rattle.lean_holdings.specs.{Going.CountsIn, Holders.ByVersion, Holding.IsKept, Holding.counted_by, InStep.AreInStep}
 use Rattle.lean_holdings.specs.Kept.{KeptRecords, held_with, kept_of, keys_held, record_with, seen}
-use Rattle.lean_holdings.proofs.{Going.goes_counted, Going.others_keyed, Naming.counted_more, Seen.held_is, Values.values_keys}
+use Rattle.lean_holdings.proofs.{Going.goes_counted, Going.others_keyed, InStep.by_alike, Naming.counted_more, Seen.held_is, Values.values_keys}
 
 -- ---- no page
 
@@ -128,12 +128,11 @@ one_counted names names2 ids id x so =
 
 -- ---- by the versions of the mapping
 
-module _ (s s2 : StoreState) (pages : Texts) (names : Naming) (by_two : List EntityId) (kept : KeptRecords) (h : AreInStep s pages names by_two kept) where
+module _ (s s2 : StoreState) (pages : Texts) (names : Naming) (ids : ByVersion) (kept : KeptRecords) (h : AreInStep s pages names ids kept) where
   -- an entity was counted in
-  pub counted_step : (names2 : Naming) (kept2 : KeptRecords) → IsKept (meaning_by meaning by_two) s2 pages names2 kept2 → seen pages kept2 ≡ seen pages kept
-      → AreInStep s2 pages names2 by_two kept2
-  counted_step names2 kept2 now alike = record { kept = now; by = subst (AreHolders by_two) (sym alike) h.by }
+  pub counted_step : (names2 : Naming) (kept2 : KeptRecords) → IsKept (meaning_by meaning ids.by_two) s2 pages names2 kept2 → seen pages kept2 ≡ seen pages kept → AreInStep s2 pages names2 ids kept2
+  counted_step names2 kept2 now alike = record { kept = now; by = by_alike pages ids kept kept2 alike h.by }
 
   -- or none was
-  pub refused_step : IsSound s2 → counts_in s2 ≡ counts_in s → KeepsKeys s s2 → AreInStep s2 pages names by_two kept
-  refused_step sound counts keeps = record { kept = still_kept (meaning_by meaning by_two) s s2 pages names kept h.kept sound counts keeps; by = h.by }
+  pub refused_step : IsSound s2 → counts_in s2 ≡ counts_in s → KeepsKeys s s2 → AreInStep s2 pages names ids kept
+  refused_step sound counts keeps = record { kept = still_kept (meaning_by meaning ids.by_two) s s2 pages names kept h.kept sound counts keeps; by = h.by }

@@ -30,7 +30,7 @@ has_term q [] = refl
 has_term q (t ∷ ts) = has-append term_cmp q (terms_of t) (flat_map terms_of ts) ∙ ap (λ b. has term_cmp q (terms_of t) || b) (has_term q ts)
 
 -- triples of one set have the same terms
-distinct_same : (ts us : List Triple) → ((t : Triple) → has triple_cmp t ts ≡ has triple_cmp t us) → distinct (flat_map terms_of ts) ≡ distinct (flat_map terms_of us)
+pub distinct_same : (ts us : List Triple) → ((t : Triple) → has triple_cmp t ts ≡ has triple_cmp t us) → distinct (flat_map terms_of ts) ≡ distinct (flat_map terms_of us)
 distinct_same ts us same =
     let set : sorted triple_cmp ts ≡ sorted triple_cmp us = sorted_same triple_cmp-total triple_cmp-IsAntisymmetric ts us same in
     ap length (sorted_same term_cmp-total term_cmp-IsAntisymmetric (flat_map terms_of ts) (flat_map terms_of us) (λ q.

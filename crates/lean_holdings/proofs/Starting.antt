@@ -13,7 +13,7 @@ use Rattle.shared_triples.specs.Lean.{IsLean, count_in, stored_of}
 use Rattle.entity_counts.specs.Naming.{Naming}
 use Rattle.shared_triples.proofs.Keeping.{at_start}
 use Rattle.lean_holdings.specs.declared.kept.LeanPage.{LeanPage}
-use Rattle.lean_holdings.specs.{Holding.IsKept, Holding.counted_by, Holding.strangers_on, InStep.AreInStep, InStep.LeanState}
+use Rattle.lean_holdings.specs.{Holders.ByVersion, Holding.IsKept, Holding.counted_by, Holding.strangers_on, InStep.AreInStep, InStep.LeanState}
 use Rattle.lean_holdings.specs.Kept.{KeptRecords, kept_of, keys_held, piece_at, piece_held, record_with, seen}
 use Rattle.lean_holdings.proofs.{Naming.nobody_names, Values.values_empty}
 
@@ -57,17 +57,22 @@ module _ (m : Meaning Triple) (s : StoreState) (pages : Texts) (sound : IsSound 
       none : (x : EntityId) (p : Piece) → piece_at map.empty x ≡ Some p → ⊥
       none x p is = true≢false (sym (ap is_some (sym (ap (λ (was : Record LeanPage). piece_held was.held) (none_kept x)) ∙ is)))
 
-pub starts : (s : StoreState) (pages : Texts) (names : Naming) (by_two : List EntityId) (kept : KeptRecords) → IsSound s → counts_in s ≡ map.empty → ((p : Piece) → bytes_of pages p ≡ None)
-    → names ≡ map.empty → by_two ≡ [] → kept ≡ map.empty → AreInStep s pages names by_two kept
-starts s pages names by_two kept sound counts texts unnamed none_by_two none =
-    subst (λ (k : KeptRecords). AreInStep s pages names by_two k) (sym none)
-    (subst (λ (n : Naming). AreInStep s pages n by_two map.empty) (sym unnamed)
-    (subst (λ (ids : List EntityId). AreInStep s pages map.empty ids map.empty) (sym none_by_two) (record {
+pub starts : (s : StoreState) (pages : Texts) (names : Naming) (ids : ByVersion) (kept : KeptRecords) → IsSound s → counts_in s ≡ map.empty → ((p : Piece) → bytes_of pages p ≡ None)
+    → names ≡ map.empty → ids ≡ record { by_one = []; by_two = [] } → kept ≡ map.empty → AreInStep s pages names ids kept
+starts s pages names ids kept sound counts texts unnamed none_by none =
+    subst (λ (k : KeptRecords). AreInStep s pages names ids k) (sym none)
+    (subst (λ (n : Naming). AreInStep s pages n ids map.empty) (sym unnamed)
+    (subst (λ (i : ByVersion). AreInStep s pages map.empty i map.empty) (sym none_by) (record {
       kept = nothing_kept (meaning_by meaning []) s pages sound counts texts;
-      by = record { rising = tt; holding = λ x there. absurd (true≢false (sym there)) };
+      by = record {
+        by_one_rises = tt;
+        by_two_rises = tt;
+        each = λ x. sym (ap (λ (was : Record LeanPage). is_some was.held) (none_kept x));
+        once = λ x there. absurd (true≢false (sym there));
+      };
     })))
 
-pub started : (s : StoreState) (pages : Texts) (names : Naming) (by_two : List EntityId) (kept : KeptRecords) (limit : ℕ) → names ≡ map.empty → by_two ≡ [] → kept ≡ map.empty → limit_of s ≡ limit
-    → ◌≡◌ {A = LeanState} (record { records = seen pages kept; limit = limit_of s; by_two = by_two; names = names }) (record { records = map.empty; limit = limit; by_two = []; names = map.empty })
-started s pages names by_two kept limit unnamed none_by_two none is i =
-    record { records = (ap (seen pages) none ∙ seen_nothing pages) i; limit = is i; by_two = none_by_two i; names = unnamed i }
+pub started : (s : StoreState) (pages : Texts) (names : Naming) (ids : ByVersion) (kept : KeptRecords) (limit : ℕ) → names ≡ map.empty → ids ≡ record { by_one = []; by_two = [] } → kept ≡ map.empty → limit_of s ≡ limit
+    → ◌≡◌ {A = LeanState} (record { records = seen pages kept; limit = limit_of s; by_two = ids.by_two; names = names }) (record { records = map.empty; limit = limit; by_two = []; names = map.empty })
+started s pages names ids kept limit unnamed none_by none is i =
+    record { records = (ap (seen pages) none ∙ seen_nothing pages) i; limit = is i; by_two = (none_by i).by_two; names = unnamed i }

@@ -1,9 +1,10 @@
 -- The record of an entity that holds what it held, or holds it with other keys.
-use Rattle.std.proofs.Common.{◌≡◌, ◌+◌, ◌||◌, List, Bool, true, false, cond, Option, Some, None, is_some, unwrap_or, refl, sym, ◌∙◌, ap, subst, true≢false, ⊎_elim}
+use Rattle.std.proofs.Common.{◌≡◌, ◌≢◌, ℕ, ◌+◌, ◌||◌, List, Bool, true, false, cond, Option, Some, None, is_some, unwrap_or, refl, sym, ◌∙◌, ap, subst, true≢false, ⊎_elim}
 use Rattle.std.specs.FinMap as map
 use Rattle.std.specs.{Cmp.eq_by_cmp_equiv, List.list_any, Ordering.eq_by_cmp}
-use Rattle.sorted_sets.specs.{Counting.one_if, Rising.has}
-use Rattle.rdf_term.specs.{declared.triple.Triple.Triple, Order.triple_cmp}
+use Rattle.sorted_sets.specs.{Counting.one_if, Rising.has, Rising.sorted}
+use Rattle.sorted_sets.proofs.Rising.{has-sorted}
+use Rattle.rdf_term.specs.{declared.triple.Triple.Triple, Order.triple_cmp, Order.triple_cmp-total}
 use Rattle.entity_model.specs.{declared.id.EntityId.EntityId, EntityId.entity_cmp, EntityId.entity_cmp_same, EntityId.entity_cmp_total}
 use Rattle.entity_state.specs.{declared.record.Held.Held, declared.record.Record.Record, Record.blank, Table.after_putting, Table.has_room}
 use Rattle.entity_state.specs.Tabled.{Tabled}
@@ -71,12 +72,12 @@ text_still : (f : PieceTexts) (h : Option (Held LeanPage)) (keys : Keys) → hel
 text_still f None keys = refl
 text_still f (Some h) keys = refl
 
-some_seen : (f : PieceTexts) (h : Option (Held LeanPage)) → is_some (held_with f h) ≡ is_some h
+pub some_seen : (f : PieceTexts) (h : Option (Held LeanPage)) → is_some (held_with f h) ≡ is_some h
 some_seen f None = refl
 some_seen f (Some h) = refl
 
 -- a record that is there is put in
-put_same : (records : Records) (x : EntityId) → is_some (record_of records x).held ≡ true → map.insert records x (record_of records x) ≡ records
+pub put_same : (records : Records) (x : EntityId) → is_some (record_of records x).held ≡ true → map.insert records x (record_of records x) ≡ records
 put_same records x there = by (map.get records x) refl
   where
     by : (found : Option (Record Bytes)) → map.get records x ≡ found → map.insert records x (record_of records x) ≡ records
@@ -159,3 +160,45 @@ module _ (kept : KeptRecords) (x : EntityId) (keys : Keys) (there : is_some (kep
     -- the entity is counted in
     pub goes_whole : IsKept m s2 pages (counted_in names x) (map.insert kept x anew)
     goes_whole = goes_counted m x s s2 pages names kept (map.insert kept x anew) h stored_whole
+
+  -- ---- the same page means something else
+
+  module _ (m n : Meaning Triple) (agree : (y : EntityId) → y ≢ x → (rev : ℕ) (bytes : Bytes) → n y rev bytes ≡ m y rev bytes)
+      (s s2 : StoreState) (pages : Texts) (names names2 : Naming) (gone come : List EntityId) (shared : List Triple)
+      (h : IsKept m s pages names kept)
+      (counted : counted_by names2 ≡ counted_by names)
+      (named : (y : EntityId) → pages_naming names2 y + one_if (has entity_cmp y gone) ≡ pages_naming names y + one_if (has entity_cmp y come))
+      (gone_are : (y : EntityId) → has entity_cmp y gone ≡ has entity_cmp y (strangers x (triples_of m (seen pages kept) x)))
+      (come_are : (y : EntityId) → has entity_cmp y come ≡ has entity_cmp y (strangers x (triples_of n (seen pages kept) x)))
+      (known : AreCounted (counted_by names) come)
+      (sound : IsSound s2) (keeps : KeepsKeys s s2)
+      (counts : (triples : List Triple) → AreKeysOf s (keys_held (kept_of kept x).held) triples → Exchanges (counts_in s) (counts_in s2) triples shared)
+      (keyed : AreKeysOf s2 keys.rising.items shared)
+      (stored : sorted triple_cmp shared ≡ triples_of (stored_of (counted_by names) n) (seen pages kept) x) where
+    again_held : held_with (bytes_of pages) anew.held ≡ (record_of (seen pages kept) x).held
+    again_held = text_still (bytes_of pages) (kept_of kept x).held keys ∙ sym (held_is (bytes_of pages) kept x)
+
+    again_meant : (t : Triple) → has triple_cmp t shared ≡ has triple_cmp t (triples_of (stored_of (counted_by names) n) (seen pages kept) x)
+    again_meant t = sym (has-sorted triple_cmp-total t shared) ∙ ap (has triple_cmp t) stored
+
+    puts_again : PutsIn m n x s s2 pages pages names names2 kept anew
+    puts_again = record {
+      agree = agree;
+      texts = λ y p other is. refl;
+      pieces = held_again (bytes_of pages) (bytes_of pages) (piece_at kept) (piece_at (map.insert kept x anew)) h.pieces (λ p. refl) pieces_still;
+      counted = counted;
+      named = λ y.
+          ap (λ b. pages_naming names2 y + one_if b) (sym (gone_are y)) ∙ named y
+          ∙ ap (λ b. pages_naming names y + one_if b) (come_are y ∙ ap (λ (held : Option (Held Bytes)). has entity_cmp y (strangers x (triples_held n x held))) (sym again_held));
+      known = subst (λ (held : Option (Held Bytes)). AreCounted (counted_by names) (strangers x (triples_held n x held))) (sym again_held) (λ y is. known y (come_are y ∙ is));
+      sound = sound;
+      moves = subst (λ (held : Option (Held Bytes)). Exchanges (counts_in s) (counts_in s2) (triples_of (stored_of (counted_by names) m) (seen pages kept) x) (triples_held (stored_of (counted_by names) n) x held)) (sym again_held)
+          (record { counts = λ t. (counts (triples_of (stored_of (counted_by names) m) (seen pages kept) x) (h.keyed x)).counts t ∙ ap (λ b. count_of (counts_in s) t + one_if b) (again_meant t) });
+      keeps = keeps;
+      keyed = subst (λ (held : Option (Held Bytes)). AreKeysOf s2 (keys_held anew.held) (triples_held (stored_of (counted_by names) n) x held)) (sym again_held)
+          (subst (λ ks. AreKeysOf s2 ks (triples_of (stored_of (counted_by names) n) (seen pages kept) x)) (sym (keys_are (kept_of kept x).held keys there))
+          (keys_same s2 keys.rising.items shared (triples_of (stored_of (counted_by names) n) (seen pages kept) x) again_meant keyed));
+    }
+
+    pub page_again : IsKept n s2 pages names2 (map.insert kept x anew)
+    page_again = goes_in m n x s s2 pages pages names names2 kept anew h puts_again

@@ -10,7 +10,7 @@ use Rattle.triple_store.specs.StoreState.{StoreState}
 use Rattle.replay_model.specs.{Records.Records, Union.Meaning, Union.union, Versions.is_holder, Versions.meaning_by}
 use Rattle.fetched_pages.specs.Meaning.{meaning}
 use Rattle.entity_counts.specs.Naming.{Naming}
-use Rattle.lean_holdings.specs.{Holding.IsKept, Kept.KeptRecords, Kept.seen}
+use Rattle.lean_holdings.specs.{Holders.AreBy, Holders.ByVersion, Holding.IsKept, Kept.KeptRecords}
 
 -- the records of the entities, each with the bytes that its entity holds; how many terms there may be; the entities whose pages are mapped by
 -- version Two; and how many pages name each entity that is counted
@@ -33,7 +33,7 @@ pub record AreHolders (by_two : List EntityId) (records : Records) : Type 0 wher
   pub rising : IsRising entity_cmp by_two
   pub holding : (x : EntityId) → has entity_cmp x by_two ≡ true → is_holder records x ≡ true
 
--- the same where each page means what it means by the version that it is mapped by
-pub record AreInStep (store : StoreState) (pages : Texts) (names : Naming) (by_two : List EntityId) (entities : KeptRecords) : Type 0 where
-  pub kept : IsKept (meaning_by meaning by_two) store pages names entities
-  pub by : AreHolders by_two (seen pages entities)
+-- the same where each page means what it means by the version that its entity is named by
+pub record AreInStep (store : StoreState) (pages : Texts) (names : Naming) (ids : ByVersion) (entities : KeptRecords) : Type 0 where
+  pub kept : IsKept (meaning_by meaning ids.by_two) store pages names entities
+  pub by : AreBy ids entities

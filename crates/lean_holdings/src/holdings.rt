@@ -1,6 +1,6 @@
 // What the entities hold, with the triples that two pages may share.
 
-ghost use Rattle.std.specs.Prelude.{◌≡◌, ◌<◌, ◌≤◌, ◌||◌, [], false, true, None, Some, Err, IfOk, MatchOption, OnErr, OnOk};
+ghost use Rattle.std.specs.Prelude.{◌≡◌, ◌<◌, ◌≤◌, ◌||◌, ◌++◌, [], false, None, Some, Err, IfOk, MatchOption, OnErr, OnOk};
 ghost use Rattle.std.specs.FinMap as map;
 ghost use Rattle.std.specs.List.{AllByRecursion};
 ghost use Rattle.sorted_sets.specs.Rising.{has, sorted};
@@ -15,6 +15,7 @@ ghost use Rattle.entity_counts.specs.Naming.{counted_in, pages_naming};
 ghost use Rattle.lean_holdings.specs.{Holding.counted_by, InStep.AreHolders, InStep.HasRoom, InStep.room_with};
 
 use crate::counting::{count_page, meant_texts};
+use crate::holders::Holders;
 use crate::kept::LeanPage;
 use crate::records::{keep_record, make_room, read_held, standing_in, version_in};
 use entity_counts::EntityCounts;
@@ -24,7 +25,6 @@ use fetched_pages::Wanted;
 use page_packing::{PackedPages, Unpacker, dictionary};
 use rdf_term::{List, OutOfMemory};
 use std::alloc::Global;
-use std::collections::BTreeSet;
 use std::hash::RandomState;
 use std::marker::Model;
 use triple_store::{Store, StoreFault};
@@ -36,12 +36,12 @@ use triple_texts::TripleTexts;
 /// are mapped by version Two, and how many pages name each entity that is counted.
 #[derive(Drop)]
 pub struct LeanHoldings {
-    alloc: Global,
-    store: Store,
-    pages: PackedPages,
-    table: Table<LeanPage>,
-    names: EntityCounts,
-    by_two: BTreeSet<EntityId>,
+    pub(crate) alloc: Global,
+    pub(crate) store: Store,
+    pub(crate) pages: PackedPages,
+    pub(crate) table: Table<LeanPage>,
+    pub(crate) names: EntityCounts,
+    pub(crate) holders: Holders,
 }
 
 impl Model for LeanHoldings {
@@ -55,11 +55,11 @@ impl Model for LeanHoldings {
     ghost view = { λ a. record {
       records = seen a.pages a.table.records;
       limit = limit_of a.store;
-      by_two = a.by_two.keys;
+      by_two = a.holders.by_two;
       names = a.names;
     } };
 
-    ghost invariant = { λ a. AreInStep a.store a.pages a.names a.by_two.keys a.table.records };
+    ghost invariant = { λ a. AreInStep a.store a.pages a.names a.holders a.table.records };
 }
 
 impl LeanHoldings {
@@ -83,7 +83,7 @@ impl LeanHoldings {
             pages,
             table,
             names: EntityCounts::new(alloc),
-            by_two: BTreeSet::new(alloc),
+            holders: Holders::new(alloc),
         })
     }
 
@@ -179,7 +179,8 @@ impl LeanHoldings {
     }
 
     /// Counts these entities, since another's page names them, as `count_in` does. After a fault some of them may be counted; everything
-    /// else is as it was.
+    /// else is as it was. The fault is `Full` if the triples that are stored where all of them are counted have more distinct terms than
+    /// the limit.
     pub fn count_all(&mut self, ids: &[EntityId], buffer: &mut Unpacker) -> Result<(), StoreFault>
         ensures records { self.new.records ≡ self.old.records }
         ensures by_two { self.new.by_two ≡ self.old.by_two }
@@ -187,8 +188,8 @@ impl LeanHoldings {
         ensures counted { OnOk result ((x : TheId) → has entity_cmp x (counted_by self.new.names)
             ≡ (has entity_cmp x ids.now || has entity_cmp x (counted_by self.old.names))) }
         ensures named { (x : TheId) → pages_naming self.new.names x ≡ pages_naming self.old.names x }
-        ensures more { (x : TheId) → has entity_cmp x (counted_by self.old.names) ≡ true →
-            has entity_cmp x (counted_by self.new.names) ≡ true }
+        ensures full { result ≡ Err Full → self.old.limit
+            < room_with (stored_of (ids.now ++ counted_by self.old.names) (meaning_by meaning self.old.by_two)) self.old.records [] }
     {
         for id in ids {
             self.count_in(*id, buffer)?;
@@ -205,7 +206,7 @@ impl LeanHoldings {
         let Some(rev) = self.held(id, buffer)? else {
             return Ok(TripleTexts::new(self.alloc));
         };
-        let version = version_in(&self.by_two, id);
+        let version = version_in(&self.holders, id);
         meant_texts(self.alloc, Wanted { id, rev, version }, buffer.text())
     }
 }

@@ -2,19 +2,28 @@
 //!
 //! `holdings` has the records, the packed pages, the store, and how many pages name each entity; `kept` what is kept of a page, and
 //! `records` how it is read and put. `storing` stores all of a page whose entity is to be counted, and `counting` counts the entity with
-//! it; `names` moves the names of entities from a page to the one in its place. `laws` says that all of it stays in step where an entity is
+//! it; `names` moves the names of entities from a page to the one in its place. `parts` parts the triples of a page, and `moving` puts its
+//! parts in the place of others. With these `holding` puts and takes pages, `remapping` maps one by another version, and `restoring` puts
+//! back what was saved; `holders` names the entities that hold by each version. `laws` says that all of it stays in step where an entity is
 //! counted in, and where a record is put in.
 #![tactic(auto)]
 
 mod counting;
+mod holders;
+mod holding;
 mod holdings;
 mod kept;
 mod laws;
+mod moving;
 mod names;
+mod parts;
 mod records;
+mod remapping;
+mod restoring;
 mod storing;
 
 pub use holdings::LeanHoldings;
 pub use kept::LeanPage;
 pub use laws::holdings_stay_in_step;
+pub use restoring::RestoreFault;
 pub use storing::store_whole;

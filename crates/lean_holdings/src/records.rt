@@ -7,12 +7,12 @@ ghost use Rattle.text_region.specs.Region.{bytes_of};
 ghost use Rattle.replay_model.specs.Versions.{version_at};
 ghost use Rattle.lean_holdings.specs.{Freeing.FreesPiece, Kept.held_with, Kept.kept_of, Kept.piece_at};
 
+use crate::holders::Holders;
 use crate::kept::{LeanPage, held_of};
 use entity_model::{EntityId, MappingVersion};
 use entity_state::{Held, Record, Standing, Table};
 use page_packing::{PackedPages, Unpacker};
 use rdf_term::OutOfMemory;
-use std::collections::BTreeSet;
 
 /// The revision that an entity holds, whose page is unpacked into a buffer.
 pub fn read_held(
@@ -64,10 +64,10 @@ fn held_revision(entity: &Record<LeanPage>) -> Option<u64>
 }
 
 /// By which version of the mapping an entity's page is mapped.
-pub fn version_in(by_two: &BTreeSet<EntityId>, id: EntityId) -> MappingVersion
-    ensures { result ≡ version_at by_two.now.keys id }
+pub fn version_in(holders: &Holders, id: EntityId) -> MappingVersion
+    ensures { result ≡ version_at holders.now.by_two id }
 {
-    if by_two.contains(&id) {
+    if holders.has(id, MappingVersion::Two) {
         MappingVersion::Two
     } else {
         MappingVersion::One

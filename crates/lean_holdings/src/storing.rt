@@ -65,7 +65,7 @@ pub fn store_whole(
 }
 
 // Sets the keys of the stored triples of what an entity holds.
-fn set_keys(table: &mut Table<LeanPage>, id: EntityId, keys: Keys)
+pub fn set_keys(table: &mut Table<LeanPage>, id: EntityId, keys: Keys)
     requires { is_some (kept_of table.old.records id).held ≡ true }
     ensures { table.new.records ≡ map.insert table.old.records id (with_keys (kept_of table.old.records id) keys) }
 {

@@ -1,11 +1,12 @@
 -- One more entity is counted.
-use Rattle.std.proofs.Common.{◌||◌, sym, ◌∙◌, ap, take, add-one}
+use Rattle.std.proofs.Common.{rules, ◌≡◌, ◌||◌, Err, sym, ◌∙◌, ap, take, add-one}
 use Rattle.std.proofs.Math.Seq.{take-suc}
 use Rattle.sorted_sets.specs.Rising.{has}
+use Rattle.term_pool.specs.declared.fault.PoolFault.TheVariants.{Full}
 use Rattle.entity_model.specs.{EntityId.entity_cmp}
 use Rattle.entity_counts.specs.Naming.{Naming, pages_naming}
 use Rattle.lean_holdings.specs.Holding.{counted_by}
-use Rattle.lean_holdings.proofs.{CountedIn.one_counted, Naming.named_alike}
+use Rattle.lean_holdings.proofs.{CountedIn.one_counted, Naming.named_alike, Needing.no_room}
 use Rattle.lean_holdings.proofs.holdings.LeanHoldings.count_all.Goals as goal
 
 pub loop-id-preserved : goal.loop-id-preserved
@@ -20,3 +21,10 @@ loop-id-preserved c =
           ∙ ap (λ ids. has entity_cmp x ids || has entity_cmp x (counted_by c.args.self.now.names)) one_more;
       named = λ x. ap (λ (n : Naming). pages_naming n x) c.in_ok-count_in.ensures.names ∙ named_alike c.loop-id.self.names _ x ∙ c.loop-id.invariant.named x;
     }
+
+pub returns-in_err-count_in-clause-full : goal.returns-in_err-count_in-clause-full
+returns-in_err-count_in-clause-full c is =
+    let failed : c.count_in.result ≡ Err Full = search rules in
+    let one_more = sym (ap (λ n. take n c.args.ids.now) (add-one c.loop-id.id-index) ∙ take-suc c.args.ids.now c.loop-id.id-index _ c.loop-id-test.true) in
+    no_room _ _ _ c.args.self.now.names c.loop-id.self.names c.args.ids.now c.loop-id.id-index _ one_more c.loop-id.invariant.counted
+    (rw (c.loop-id.invariant.limit, c.loop-id.invariant.by_two, c.loop-id.invariant.records) at c.count_in.ensures.full failed)

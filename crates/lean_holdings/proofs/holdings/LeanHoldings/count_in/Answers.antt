@@ -17,7 +17,7 @@ use Rattle.lean_holdings.proofs.holdings.LeanHoldings.count_in.Goals.{Joined-cou
 use Rattle.lean_holdings.proofs.holdings.LeanHoldings.count_in.Goals as goal
 
 abbrev means : Joined-counted → Meaning Triple
-means c = meaning_by meaning c.self.inside.by_two.keys
+means c = meaning_by meaning c.self.inside.holders.by_two
 
 abbrev records : Joined-counted → Records
 records c = seen c.self.inside.pages c.self.inside.table.records
@@ -30,19 +30,19 @@ count_page-counted-requires-clause-may_come c = record {
   fit = c.in-Ok.ensures.fit;
   countable =
       let few : map.len c.self.inside.table.records < 18446744073709551615 = omega arith in
-      λ t _. countable (meaning_by meaning c.self.inside.by_two.keys) c.self.inside.store c.self.inside.pages c.self.inside.names c.self.inside.table.records c.self.invariant.kept _ few t;
+      λ t _. countable (meaning_by meaning c.self.inside.holders.by_two) c.self.inside.store c.self.inside.pages c.self.inside.names c.self.inside.table.records c.self.invariant.kept _ few t;
 }
 
 pub invariant_of-self : goal.invariant_of-self
 invariant_of-self c = elim c.match-counted.branch [
   | in-Ok-counted w ↦
-      counted_step c.self.inside.store c.count_page-counted.new.store c.self.inside.pages c.self.inside.names c.self.inside.by_two.keys c.self.inside.table.records c.self.invariant
+      counted_step c.self.inside.store c.count_page-counted.new.store c.self.inside.pages c.self.inside.names c.self.inside.holders c.self.inside.table.records c.self.invariant
       c.count_page-counted.new.names c.count_page-counted.new.table.records
-      (w.in-Ok-counted.ensures.counted (meaning_by meaning c.self.inside.by_two.keys) c.self.inside.pages c.self.invariant.kept (meant c))
+      (w.in-Ok-counted.ensures.counted (meaning_by meaning c.self.inside.holders.by_two) c.self.inside.pages c.self.invariant.kept (meant c))
       (c.count_page-counted.ensures.seen c.self.inside.pages)
   | in-Err w ↦
       rw (w.in-Err.ensures.err_table, w.in-Err.ensures.err_names)
-      (refused_step c.self.inside.store c.count_page-counted.new.store c.self.inside.pages c.self.inside.names c.self.inside.by_two.keys c.self.inside.table.records c.self.invariant
+      (refused_step c.self.inside.store c.count_page-counted.new.store c.self.inside.pages c.self.inside.names c.self.inside.holders c.self.inside.table.records c.self.invariant
       c.count_page-counted.ensures.rest.sound w.in-Err.ensures.err c.count_page-counted.ensures.rest.keeps)
 ]
 
@@ -54,5 +54,5 @@ returns-clause-full c is = elim c.match-counted.branch [
       let few : limit_of c.self.inside.store < room_for (counts_in c.self.inside.store) c.in-Ok.page = w.in-Err.ensures.full (ap (λ fault. Err fault) same) in
       let a = c.self.inside in
       rw (← c.self.view_is)
-      (subst (λ n. limit_of a.store < n) (room_more (meaning_by meaning a.by_two.keys) (counted_by a.names) a.store (seen a.pages a.table.records) c.self.invariant.kept.sound c.self.invariant.kept.lean c.in-Ok.page _ (meant c)) few)
+      (subst (λ n. limit_of a.store < n) (room_more (meaning_by meaning a.holders.by_two) (counted_by a.names) a.store (seen a.pages a.table.records) c.self.invariant.kept.sound c.self.invariant.kept.lean c.in-Ok.page _ (meant c)) few)
 ]

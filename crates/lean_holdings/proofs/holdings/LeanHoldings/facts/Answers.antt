@@ -2,13 +2,15 @@
 use Rattle.replay_model.specs.Versions.{meaning_by}
 use Rattle.fetched_pages.specs.Meaning.{meaning}
 use Rattle.lean_holdings.specs.{Holding.counted_by, Kept.seen}
-use Rattle.lean_holdings.proofs.Rooming.{room_held}
+use Rattle.lean_holdings.proofs.{ByVersion.by_two_holds, InStep.links, Rooming.room_held}
 use Rattle.lean_holdings.proofs.holdings.LeanHoldings.facts.Goals as goal
 
 pub returns-clause-room : goal.returns-clause-room
 returns-clause-room c =
     let a = c.self.inside in
-    rw (← c.self.view_is) (room_held (meaning_by meaning a.by_two.keys) (counted_by a.names) a.store (seen a.pages a.table.records) c.self.invariant.kept.sound c.self.invariant.kept.lean)
+    rw (← c.self.view_is) (room_held (meaning_by meaning a.holders.by_two) (counted_by a.names) a.store (seen a.pages a.table.records) c.self.invariant.kept.sound c.self.invariant.kept.lean)
 
 pub returns-clause-holders : goal.returns-clause-holders
-returns-clause-holders c = rw (← c.self.view_is) c.self.invariant.by
+returns-clause-holders c =
+    let a = c.self.inside in
+    rw (← c.self.view_is) (by_two_holds a.holders a.table.records (seen a.pages a.table.records) c.self.invariant.by (links a.pages a.table.records))

@@ -9,4 +9,4 @@ use Rattle.lean_holdings.proofs.holdings.LeanHoldings.terms.Goals as goal
 pub returns-clause-count : goal.returns-clause-count
 returns-clause-count c =
     let a = c.self.inside in
-    rw (← c.self.view_is) (c.terms.ensures.count ∙ room_is (meaning_by meaning a.by_two.keys) (counted_by a.names) a.store (seen a.pages a.table.records) c.self.invariant.kept.sound c.self.invariant.kept.lean)
+    rw (← c.self.view_is) (c.terms.ensures.count ∙ room_is (meaning_by meaning a.holders.by_two) (counted_by a.names) a.store (seen a.pages a.table.records) c.self.invariant.kept.sound c.self.invariant.kept.lean)

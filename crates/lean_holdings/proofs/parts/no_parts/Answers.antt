@@ -1,0 +1,17 @@
+-- Nothing has no parts.
+use Rattle.std.proofs.Common.{refl, sym, ap, subst}
+use Rattle.std.specs.List.{AllByRecursion}
+use Rattle.sorted_sets.specs.Rising.{IsRising, has, sorted}
+use Rattle.rdf_term.specs.{Fit.HasFitAndShortTerms, Order.triple_cmp}
+use Rattle.entity_model.specs.EntityId.{entity_cmp}
+use Rattle.page_parts.specs.Parts.{PartsState}
+use Rattle.lean_holdings.proofs.parts.no_parts.Goals as goal
+
+pub returns : goal.returns
+returns c counted m = record {
+  own = ap (λ (p : PartsState). sorted triple_cmp p.own) c.new.ensures;
+  stored = ap (λ (p : PartsState). sorted triple_cmp p.shared) c.new.ensures;
+  fit = subst (λ (p : PartsState). AllByRecursion HasFitAndShortTerms p.shared) (sym c.new.ensures) tt;
+  rising = subst (IsRising entity_cmp) (sym c.new-2.ensures.items) tt;
+  names = λ y. ap (has entity_cmp y) c.new-2.ensures.items;
+}

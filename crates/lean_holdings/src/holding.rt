@@ -1,0 +1,288 @@
+// An entity holds a page from now on, or holds nothing any longer.
+
+ghost use Rattle.std.specs.Prelude.{◌≡◌, ◌<◌, ◌≤◌, ◌||◌, ◌++◌, List, [], None, Some, Err, IfOk, OnErr, OnOk, length};
+ghost use Rattle.std.specs.FinMap as map;
+ghost use Rattle.sorted_sets.specs.Rising.{has};
+ghost use Rattle.rdf_term.specs.declared.triple.Triple.{Triple};
+ghost use Rattle.term_pool.specs.declared.fault.PoolFault.TheVariants.{Full};
+ghost use Rattle.entity_model.specs.{EntityId.entity_cmp, declared.id.EntityId.EntityId as TheId};
+ghost use Rattle.entity_model.specs.declared.mapping.MappingVersion.TheVariants.{One};
+ghost use Rattle.replay_model.specs.{Records.record_of, Union.Meaning, Versions.meaning_by, Versions.with_version};
+ghost use Rattle.fetched_pages.specs.Meaning.{meaning};
+ghost use Rattle.shared_triples.specs.Lean.{AreCounted, stored_of};
+ghost use Rattle.entity_counts.specs.Naming.{pages_naming};
+ghost use Rattle.lean_holdings.specs.{Changing.IsChangeOf, Changing.held_triples, Changing.needs};
+ghost use Rattle.lean_holdings.specs.{Holding.counted_by, InStep.room_with, Moving.ArePartsOf};
+
+use crate::holders::other;
+use crate::holdings::LeanHoldings;
+use crate::kept::{LeanPage, keys_of};
+use crate::moving::{Moving, move_parts};
+use crate::parts::{NamedParts, named_parts, no_parts};
+use crate::records::{make_room, replace, version_in};
+use entity_model::{EntityId, MappingVersion};
+use entity_state::{Held, Standing};
+use fetched_pages::Wanted;
+use page_packing::Unpacker;
+use parts_exchange::{PartsChange, PartsExchange};
+use rdf_term::OutOfMemory;
+use triple_store::StoreFault;
+
+impl LeanHoldings {
+    /// Sets the record of an entity, which holds the page of the wanted revision from now on, and tells the change of the triples that
+    /// the held pages mean. All entities that the page names are counted then; pages are unpacked into a buffer. After a fault some of
+    /// these may be counted, and everything else is as it was. The fault is `Full` if the triples that are to be stored have, with the
+    /// stored ones, more distinct terms than the limit.
+    pub fn hold(
+        &mut self,
+        wanted: Wanted,
+        after: Standing,
+        page: &[u8],
+        buffer: &mut Unpacker,
+    ) -> Result<PartsChange, StoreFault>
+        requires short { length page.now ≤ 8388608 }
+        ensures records { OnOk result (self.new.records ≡ map.insert self.old.records wanted.id (record {
+          state = after.state;
+          held = Some (record { revision = wanted.rev; content = page.now });
+          reconciled = after.reconciled;
+        })) }
+        ensures by_two { OnOk result (self.new.by_two ≡ with_version wanted.version wanted.id self.old.by_two) }
+        ensures change { IfOk result (IsChangeOf (held_triples self.old) (held_triples self.new)) }
+        ensures limit { self.new.limit ≡ self.old.limit }
+        ensures err { OnErr result (self.new.records ≡ self.old.records) }
+        ensures err_by_two { OnErr result (self.new.by_two ≡ self.old.by_two) }
+        ensures err_named { OnErr result ((x : TheId) → pages_naming self.new.names x ≡ pages_naming self.old.names x) }
+        ensures full { result ≡ Err Full →
+            self.old.limit < needs self.old wanted.version wanted.id (Some (record { revision = wanted.rev; content = page.now })) }
+        ensures within { OnOk result (needs self.old wanted.version wanted.id (Some (record { revision = wanted.rev; content = page.now }))
+            ≤ self.old.limit) }
+    {
+        let is_counted = self.names.is_counted(wanted.id);
+        let Ok(come) = named_parts(self.alloc, wanted, page, is_counted) else {
+            return Err(StoreFault::OutOfMemory);
+        };
+        let held = self.hold_parts(wanted, after, page, &come, buffer);
+        drop(come);
+        held
+    }
+
+    // The same with the parts of the page.
+    pub(crate) fn hold_parts(
+        &mut self,
+        wanted: Wanted,
+        after: Standing,
+        page: &[u8],
+        come: &NamedParts,
+        buffer: &mut Unpacker,
+    ) -> Result<PartsChange, StoreFault>
+        requires short { length page.now ≤ 8388608 }
+        requires come { (counted : List TheId) → has entity_cmp wanted.id counted ≡ has entity_cmp wanted.id (counted_by self.old.names) →
+            ArePartsOf counted (meaning wanted.version) wanted.id (Some (record { revision = wanted.rev; content = page.now })) come.now }
+        ensures records { OnOk result (self.new.records ≡ map.insert self.old.records wanted.id (record {
+          state = after.state;
+          held = Some (record { revision = wanted.rev; content = page.now });
+          reconciled = after.reconciled;
+        })) }
+        ensures by_two { OnOk result (self.new.by_two ≡ with_version wanted.version wanted.id self.old.by_two) }
+        ensures change { IfOk result (IsChangeOf (held_triples self.old) (held_triples self.new)) }
+        ensures limit { self.new.limit ≡ self.old.limit }
+        ensures err { OnErr result (self.new.records ≡ self.old.records) }
+        ensures err_by_two { OnErr result (self.new.by_two ≡ self.old.by_two) }
+        ensures err_named { OnErr result ((x : TheId) → pages_naming self.new.names x ≡ pages_naming self.old.names x) }
+        ensures full { result ≡ Err Full →
+            self.old.limit < needs self.old wanted.version wanted.id (Some (record { revision = wanted.rev; content = page.now })) }
+        ensures within { OnOk result (needs self.old wanted.version wanted.id (Some (record { revision = wanted.rev; content = page.now }))
+            ≤ self.old.limit) }
+    {
+        match self.make_ready(wanted.id, come.names.as_slice(), buffer) {
+            Ok(gone) => {
+                let held = self.put_page(wanted, after, page, &gone, come);
+                drop(gone);
+                held
+            }
+            Err(fault) => Err(fault),
+        }
+    }
+
+    /// Sets the record of an entity, which holds nothing from now on, and tells the change of the triples that the held pages mean; its
+    /// page is unpacked into a buffer. After `OutOfMemory` nothing has changed.
+    pub fn release(
+        &mut self,
+        id: EntityId,
+        after: Standing,
+        buffer: &mut Unpacker,
+    ) -> Result<PartsChange, OutOfMemory>
+        ensures records { OnOk result (self.new.records ≡ map.insert self.old.records id (record {
+          state = after.state;
+          held = None;
+          reconciled = after.reconciled;
+        })) }
+        ensures by_two { OnOk result (self.new.by_two ≡ with_version One id self.old.by_two) }
+        ensures change { IfOk result (IsChangeOf (held_triples self.old) (held_triples self.new)) }
+        ensures limit { self.new.limit ≡ self.old.limit }
+        ensures err { OnErr result (self.new ≡ self.old) }
+    {
+        let version = version_in(&self.holders, id);
+        let gone = self.held_parts(id, version, buffer)?;
+        let come = no_parts(self.alloc, id);
+        let released = self.put_nothing(id, after, &gone, &come);
+        drop(gone);
+        drop(come);
+        released
+    }
+
+    // The parts of what an entity holds, mapped by a version. The page is unpacked into a buffer.
+    pub(crate) fn held_parts(
+        &self,
+        id: EntityId,
+        version: MappingVersion,
+        buffer: &mut Unpacker,
+    ) -> Result<NamedParts, OutOfMemory>
+        ensures { (counted : List TheId) → has entity_cmp id counted ≡ has entity_cmp id (counted_by self.now.names) →
+            IfOk result (ArePartsOf counted (meaning version) id (record_of self.now.records id).held) }
+    {
+        let Some(rev) = self.held(id, buffer)? else {
+            return Ok(no_parts(self.alloc, id));
+        };
+        let is_counted = self.names.is_counted(id);
+        named_parts(
+            self.alloc,
+            Wanted { id, rev, version },
+            buffer.text(),
+            is_counted,
+        )
+    }
+
+    // Counts these entities, and gives the parts of what an entity holds; pages are unpacked into a buffer. After a fault some of these
+    // entities may be counted; everything else is as it was.
+    pub(crate) fn make_ready(
+        &mut self,
+        id: EntityId,
+        come: &[EntityId],
+        buffer: &mut Unpacker,
+    ) -> Result<NamedParts, StoreFault>
+        ensures records { self.new.records ≡ self.old.records }
+        ensures by_two { self.new.by_two ≡ self.old.by_two }
+        ensures limit { self.new.limit ≡ self.old.limit }
+        ensures counted { OnOk result ((x : TheId) → has entity_cmp x (counted_by self.new.names)
+            ≡ (has entity_cmp x come.now || has entity_cmp x (counted_by self.old.names))) }
+        ensures named { (x : TheId) → pages_naming self.new.names x ≡ pages_naming self.old.names x }
+        ensures gone { IfOk result (ArePartsOf (counted_by self.new.names) (meaning_by meaning self.new.by_two) id
+            (record_of self.new.records id).held) }
+        ensures full { result ≡ Err Full → self.old.limit
+            < room_with (stored_of (come.now ++ counted_by self.old.names) (meaning_by meaning self.old.by_two)) self.old.records [] }
+    {
+        self.count_all(come, buffer)?;
+        let version = version_in(&self.holders, id);
+        match self.held_parts(id, version, buffer) {
+            Ok(gone) => Ok(gone),
+            Err(OutOfMemory) => Err(StoreFault::OutOfMemory),
+        }
+    }
+
+    // Sets the record of an entity, which holds a page from now on, whose parts these are, in the place of those that it held. All that
+    // the page names are counted. After a fault nothing has changed.
+    fn put_page<'x>(
+        &mut self,
+        wanted: Wanted,
+        after: Standing,
+        page: &[u8],
+        gone: &'x NamedParts,
+        come: &'x NamedParts,
+    ) -> Result<PartsChange, StoreFault>
+        requires short { length page.now ≤ 8388608 }
+        requires gone { ArePartsOf (counted_by self.old.names) (meaning_by meaning self.old.by_two) wanted.id
+            (record_of self.old.records wanted.id).held gone.now }
+        requires come { ArePartsOf (counted_by self.old.names) (meaning wanted.version) wanted.id
+            (Some (record { revision = wanted.rev; content = page.now })) come.now }
+        requires known { AreCounted (counted_by self.old.names) come.now.names.items }
+        ensures records { OnOk result (self.new.records ≡ map.insert self.old.records wanted.id (record {
+          state = after.state;
+          held = Some (record { revision = wanted.rev; content = page.now });
+          reconciled = after.reconciled;
+        })) }
+        ensures by_two { OnOk result (self.new.by_two ≡ with_version wanted.version wanted.id self.old.by_two) }
+        ensures change { IfOk result (IsChangeOf (held_triples self.old) (held_triples self.new)) }
+        ensures limit { self.new.limit ≡ self.old.limit }
+        ensures err { OnErr result (self.new ≡ self.old) }
+        ensures full { result ≡ Err Full → self.old.limit
+            < room_with (stored_of (counted_by self.old.names) (meaning_by meaning self.old.by_two)) self.old.records
+            come.now.parts.shared }
+        ensures within { OnOk result (room_with (stored_of (counted_by self.old.names) (meaning_by meaning self.old.by_two))
+            self.old.records come.now.parts.shared ≤ self.old.limit) }
+    {
+        let id = wanted.id;
+        if make_room(&mut self.table, id).is_err() {
+            return Err(StoreFault::OutOfMemory);
+        }
+        // At most as many pages have a triple, or name an entity, as there are records, so no count is saturated.
+        let entities = self.table.len();
+        prove!(entities < usize::MAX);
+        let Ok(added) = self.holders.add(id, wanted.version) else {
+            return Err(StoreFault::OutOfMemory);
+        };
+        let Ok(piece) = self.pages.put(page) else {
+            self.holders.take_back(id, wanted.version, added);
+            return Err(StoreFault::OutOfMemory);
+        };
+        let keys = keys_of(&self.table, id);
+        let moving = Moving { gone, come };
+        match move_parts(self.alloc, &mut self.store, &mut self.names, keys, moving) {
+            Ok(PartsExchange { keys, change }) => {
+                let held = Held {
+                    revision: wanted.rev,
+                    content: LeanPage { piece, keys },
+                };
+                replace(&mut self.pages, &mut self.table, id, after, Some(held));
+                self.holders.remove(id, other(wanted.version));
+                Ok(change)
+            }
+            Err(refused) => {
+                self.pages.free(piece);
+                self.holders.take_back(id, wanted.version, added);
+                Err(refused)
+            }
+        }
+    }
+
+    // Sets the record of an entity, which holds nothing from now on; these are the parts of what it held, and those of nothing. After
+    // `OutOfMemory` nothing has changed.
+    fn put_nothing<'x>(
+        &mut self,
+        id: EntityId,
+        after: Standing,
+        gone: &'x NamedParts,
+        come: &'x NamedParts,
+    ) -> Result<PartsChange, OutOfMemory>
+        requires gone { ArePartsOf (counted_by self.old.names) (meaning_by meaning self.old.by_two) id
+            (record_of self.old.records id).held gone.now }
+        requires come { (counted : List TheId) (m : Meaning Triple) → ArePartsOf counted m id None come.now }
+        ensures records { OnOk result (self.new.records ≡ map.insert self.old.records id (record {
+          state = after.state;
+          held = None;
+          reconciled = after.reconciled;
+        })) }
+        ensures by_two { OnOk result (self.new.by_two ≡ with_version One id self.old.by_two) }
+        ensures change { IfOk result (IsChangeOf (held_triples self.old) (held_triples self.new)) }
+        ensures limit { self.new.limit ≡ self.old.limit }
+        ensures err { OnErr result (self.new ≡ self.old) }
+    {
+        let Ok(()) = make_room(&mut self.table, id) else {
+            return Err(OutOfMemory);
+        };
+        let entities = self.table.len();
+        prove!(entities < usize::MAX);
+        let keys = keys_of(&self.table, id);
+        let moving = Moving { gone, come };
+        match move_parts(self.alloc, &mut self.store, &mut self.names, keys, moving) {
+            Ok(PartsExchange { keys, change }) => {
+                drop(keys);
+                replace(&mut self.pages, &mut self.table, id, after, None);
+                self.holders.remove(id, MappingVersion::One);
+                self.holders.remove(id, MappingVersion::Two);
+                Ok(change)
+            }
+            Err(_) => Err(OutOfMemory),
+        }
+    }
+}
