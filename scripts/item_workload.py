@@ -1,0 +1,158 @@
+#!/usr/bin/env python3
+"""Makes a workload of items, to measure memory and time: a folder with `input` and the pages in `revs`.
+
+    scripts/item_workload.py --items 8000 --bytes 22600 --into FOLDER [--edits 0] [--parts 1]
+    cd FOLDER && .../wdq patches --from revs < input > output
+
+A page has the members of Wikidata's: labels, descriptions, aliases, site links, and statements with qualifiers and references. Items share
+values, and three of five statements have one of 400 references. --bytes is the size of a page on average. Each item has an edit that makes
+it, the least item first; then come --edits further ones, each of an item by chance, which change a label and a statement. A watermark
+follows every 50 edits. With --parts N the folder has input-0 to input-(N-1) in place of `input`, with the events of the items whose number
+modulo N is that of the file. The workload depends on its arguments and --seed alone.
+"""
+import argparse
+import os
+import pathlib
+import random
+
+from lexeme_workload import LANGUAGES, SYLLABLES, compact, item_snak, second, snak, tagged, word
+
+PROPERTIES = ["P17", "P31", "P47", "P131", "P190", "P214", "P227", "P244", "P373", "P569", "P571", "P625", "P646", "P856", "P910", "P1082", "P1343", "P1448",
+              "P1566", "P2046"]
+ITEM_PROPERTIES = {"P17", "P31", "P47", "P131", "P190", "P910", "P1343"}
+BYTES = 22600  # of a page whose scale is 1
+CALENDAR = "http://www.wikidata.org/entity/Q1985727"
+
+
+def main_snak(chance, name):
+    """A snak of this property: an item, a time, a quantity, a place, or a text."""
+    if name in ITEM_PROPERTIES:
+        return item_snak(chance, name)
+    if name in ("P569", "P571"):
+        value = {"time": f"+{chance.randint(1000, 2024):04d}-01-01T00:00:00Z", "timezone": 0, "before": 0, "after": 0, "precision": 9, "calendarmodel": CALENDAR}
+        return snak(chance, name, value, "time", "time")
+    if name in ("P1082", "P2046"):
+        return snak(chance, name, {"amount": f"+{chance.randint(1, 300)}", "unit": "1"}, "quantity", "quantity")
+    if name == "P625":
+        value = {"latitude": round(chance.uniform(-90, 90), 4), "longitude": round(chance.uniform(-180, 180), 4), "altitude": None, "precision": 0.0001,
+                 "globe": "http://www.wikidata.org/entity/Q2"}
+        return snak(chance, name, value, "globecoordinate", "globe-coordinate")
+    if name == "P856":
+        return snak(chance, name, f"https://example.org/{word(chance)}/{chance.randint(1, 5000)}", "string", "url")
+    return snak(chance, name, f"{word(chance)}-{chance.randint(1, 10 ** 7)}", "string", "external-id")
+
+
+def reference(chance):
+    """One of the references that statements share."""
+    shared = random.Random(chance.randint(0, 400))
+    snaks = {"P248": [item_snak(shared, "P248")], "P854": [main_snak(shared, "P856") | {"property": "P854"}]}
+    return {"hash": f"{shared.getrandbits(160):040x}", "snaks": snaks, "snaks-order": list(snaks)}
+
+
+def statement(chance, item, name):
+    """A statement, perhaps with a qualifier and a reference."""
+    numbers = (chance.getrandbits(bits) for bits in (32, 16, 16, 16, 48))
+    made = {"mainsnak": main_snak(chance, name), "type": "statement", "id": "%s$%08X-%04X-%04X-%04X-%012X" % (item, *numbers), "rank": "normal"}
+    if chance.random() < 0.35:
+        made["qualifiers"] = {"P585": [main_snak(chance, "P571") | {"property": "P585"}]}
+        made["qualifiers-order"] = ["P585"]
+    if chance.random() < 0.6:
+        made["references"] = [reference(chance)]
+    return made
+
+
+def some(chance, most, scale):
+    """A number around `most` times the scale, at least one."""
+    return max(1, round(most * scale * chance.uniform(0.7, 1.3)))
+
+
+def page(chance, item, scale):
+    """A page of an item; a page of scale 1 has some 22,600 bytes."""
+    languages = chance.sample(LANGUAGES, min(len(LANGUAGES), some(chance, 20, scale)))
+    names = chance.choices(PROPERTIES, k=some(chance, 28, scale))
+    return {"type": "item", "id": item, "labels": tagged(chance, languages), "descriptions": tagged(chance, languages[:some(chance, 14, scale)]),
+            "aliases": {code: list(tagged(chance, [code]).values()) for code in languages[:some(chance, 6, scale)]},
+            "claims": {name: [statement(chance, item, name) for _ in range(names.count(name))] for name in sorted(set(names))},
+            "sitelinks": {f"{code}wiki": {"site": f"{code}wiki", "title": f"{word(chance)} {item}", "badges": [], "url": f"https://{code}.wikipedia.org/"}
+                          for code in languages[:some(chance, 12, scale)]},
+            "modified": "2024-05-01T12:00:00Z"}
+
+
+def edit(chance, made):
+    """Changes a label and a statement of a page."""
+    made["labels"][chance.choice(list(made["labels"]))]["value"] += chance.choice(SYLLABLES)
+    name = chance.choice(list(made["claims"]))
+    made["claims"][name][-1] = statement(chance, made["id"], name)
+
+
+class Writer:
+    """Writes pages, and lines to the files of the parts."""
+
+    def __init__(self, folder, parts):
+        self.folder, self.bytes, self.revision = folder, 0, 0
+        (folder / "revs").mkdir(parents=True)
+        names = ["input"] if parts == 1 else [f"input-{part}" for part in range(parts)]
+        self.files = [open(folder / name, "w", encoding="utf-8") for name in names]
+
+    def put(self, number, made):
+        """Writes a page and the edit that brings it."""
+        self.revision += 1
+        self.bytes += (self.folder / "revs" / f"{self.revision}.json").write_bytes(compact(made).encode())
+        self.line(self.files[number % len(self.files)], {"kind": "edit", "entity": made["id"], "rev": self.revision, "time": second(self.revision)})
+        if self.revision % 50 == 0:
+            self.mark()
+
+    def mark(self):
+        """Writes a watermark to each file."""
+        for file in self.files:
+            self.line(file, {"watermark": second(self.revision)})
+
+    @staticmethod
+    def line(file, value):
+        """Writes a line."""
+        file.write(compact(value) + "\n")
+
+
+def make(folder, items, size, edits, parts, seed):
+    """Makes the workload, and gives the number of pages and of their bytes. A page is made anew for each edit of it, from a seed of its own."""
+    writer = Writer(folder, parts)
+
+    def made_page(number):
+        own = random.Random(f"{seed}/{number}")
+        scale = min(4.0, max(0.35, own.lognormvariate(0, 0.6))) * (size - 250) / (1.18 * BYTES + 600)
+        return page(own, f"Q{number}", scale)
+
+    for number in range(1, items + 1):
+        writer.put(number, made_page(number))
+    chance = random.Random(f"{seed}/{items}/{edits}")
+    for _ in range(edits):
+        number = chance.randint(1, items)
+        made = made_page(number)
+        edit(chance, made)
+        writer.put(number, made)
+    writer.mark()
+    for file in writer.files:
+        file.close()
+    return writer.revision, writer.bytes
+
+
+def main():
+    """Makes the workload that the arguments ask for."""
+    parser = argparse.ArgumentParser(description=__doc__, formatter_class=argparse.RawDescriptionHelpFormatter)
+    parser.add_argument("--items", type=int, required=True)
+    parser.add_argument("--bytes", type=int, default=BYTES)
+    parser.add_argument("--edits", type=int, default=0)
+    parser.add_argument("--parts", type=int, default=1)
+    parser.add_argument("--into", type=pathlib.Path, required=True)
+    parser.add_argument("--seed", default="1")
+    given = parser.parse_args()
+    if min(given.items, given.bytes, given.parts) < 1 or given.edits < 0:
+        parser.error("--items, --bytes and --parts are at least 1, and --edits is at least 0")
+    if os.path.exists(given.into):
+        parser.error(f"{given.into} is there already")
+    pages, size = make(given.into, given.items, given.bytes, given.edits, given.parts, given.seed)
+    print(f"{pages} edits of {given.items} items, {size} bytes of pages, {size // pages} on average")
+
+
+if __name__ == "__main__":
+    main()
