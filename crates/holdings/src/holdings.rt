@@ -17,7 +17,7 @@ use crate::remapping::held_in;
 use entity_model::{EntityId, MappingVersion};
 use entity_state::{Record, Standing, Table};
 use fetched_pages::KnownPage;
-use holders::{Holders, other};
+use holders::{Holders, discard_store, other};
 use rdf_term::{List, OutOfMemory, TripleSet};
 use std::alloc::Global;
 use std::hash::RandomState;
@@ -179,6 +179,19 @@ impl Holdings {
         let rows = self.store.rows_of(keys_of(&self.table, id))?;
         rows.to_set(self.alloc)
     }
+}
+
+/// Gives back the memory of holdings. So the drop of all that they own is proved here, and not in each crate that has them.
+pub fn discard(holdings: Holdings) {
+    let Holdings {
+        alloc: _,
+        store,
+        table,
+        holders,
+    } = holdings;
+    discard_store(store);
+    drop(table);
+    drop(holders);
 }
 
 // The page that an entity holds, with the counts that are known of it, where it is known how many times each of its triples comes.

@@ -12,5 +12,5 @@ mod page_changes;
 mod remapping;
 mod swapping;
 
-pub use holdings::Holdings;
+pub use holdings::{Holdings, discard};
 pub use remapping::RemappedPage;

@@ -129,7 +129,16 @@ impl World {
 
 /// Gives back the memory of a world. So the drop of all that a world may hold is proved here, and not in each crate that has one.
 pub fn discard(world: World) {
-    drop(world);
+    let World {
+        alloc: _,
+        buffer,
+        side,
+        mapping: _,
+        holdings,
+    } = world;
+    holdings::discard(holdings);
+    drop(buffer);
+    drop(side);
 }
 
 // Takes an event, and names it in the side output where it is late.
