@@ -1,8 +1,8 @@
 -- An entity that holds no page is counted in, or one can't be counted in.
-use Rattle.std.proofs.Common.{◌≡◌, ℕ, ◌+◌, ◌<◌, ◌≤◌, Bool, true, false, cond, ◌||◌, List, [], ◌∷◌, ◌++◌, Option, Some, None, is_some, length, refl, sym, ◌∙◌, ap, subst, true≢false, arith}
+use Rattle.std.proofs.Common.{◌≡◌, ℕ, ◌+◌, ◌<◌, ◌≤◌, Bool, true, false, cond, ◌||◌, List, [], ◌∷◌, ◌++◌, Option, Some, None, is_some, refl, sym, ◌∙◌, ap, subst, true≢false, arith}
 use Rattle.std.specs.FinMap as map
 use Rattle.std.specs.Ordering.{eq_by_cmp}
-use Rattle.std.proofs.lemmas.{List.length-map, List.Sums.count_by-le-length}
+use Rattle.std.proofs.lemmas.List.Sums.{count_by-le-length}
 use Rattle.sorted_sets.specs.{Counting.one_if, Rising.has}
 use Rattle.sorted_sets.proofs.{Bools.equal, Rising.has-append}
 use Rattle.rdf_term.specs.{declared.triple.Triple.Triple, Order.triple_cmp}
@@ -16,9 +16,11 @@ use Rattle.replay_model.specs.Versions.{meaning_by}
 use Rattle.fetched_pages.specs.Meaning.{meaning}
 use Rattle.shared_triples.specs.Lean.{IsLean, count_in, stored_of, triples_of}
 use Rattle.entity_counts.specs.Naming.{Naming, counted_in, is_counted}
-use Rattle.lean_holdings.specs.{Going.CountsIn, Holders.ByVersion, Holding.IsKept, Holding.counted_by, InStep.AreInStep}
+use Rattle.holders.specs.Holders.{ByVersion}
+use Rattle.lean_holdings.specs.{Going.CountsIn, Holding.IsKept, Holding.counted_by, InStep.AreInStep}
 use Rattle.lean_holdings.specs.Kept.{KeptRecords, held_with, kept_of, keys_held, record_with, seen}
-use Rattle.lean_holdings.proofs.{Going.goes_counted, Going.others_keyed, InStep.by_alike, Naming.counted_more, Seen.held_is, Values.values_keys}
+use Rattle.holders.proofs.Values.{values_len}
+use Rattle.lean_holdings.proofs.{Going.goes_counted, Going.others_keyed, InStep.by_alike, Naming.counted_more, Seen.held_is}
 
 -- ---- no page
 
@@ -26,7 +28,7 @@ module _ (m : Meaning Triple) (x : EntityId) (s : StoreState) (pages : Texts) (n
   nothing_held : (record_of (seen pages kept) x).held ≡ None
   nothing_held = held_is (bytes_of pages) kept x ∙ ap (held_with (bytes_of pages)) none
 
-  nothing_meant : (n : Meaning Triple) → triples_of n (seen pages kept) x ≡ []
+  pub nothing_meant : (n : Meaning Triple) → triples_of n (seen pages kept) x ≡ []
   nothing_meant n = ap (triples_held n x) nothing_held
 
   counts_nothing : IsKept m s pages names kept → CountsIn m x s s pages names kept kept
@@ -93,16 +95,13 @@ are_stored m s pages names kept x h = record {
       one.1.stored;
 }
 
-len_keys : {X : Type 0} (k : map.FinMap entity_cmp X) → map.len k ≡ length (map.keys k)
-len_keys k = map.len-entries k ∙ sym (length-map (map.entries k) (λ e. e.0))
-
 -- no count is saturated
 pub countable : (m : Meaning Triple) (s : StoreState) (pages : Texts) (names : Naming) (kept : KeptRecords) → IsKept m s pages names kept
     → (n : ℕ) → map.len kept < n → (t : Triple) → count_of (counts_in s) t < n
 countable m s pages names kept h n few t =
     let stored : Meaning Triple = stored_of (counted_by names) m in
     let records : Records = seen pages kept in
-    let as_many : map.len records ≡ map.len kept = len_keys records ∙ ap length (values_keys (record_with (bytes_of pages)) kept) ∙ sym (len_keys kept) in
+    let as_many : map.len records ≡ map.len kept = values_len (record_with (bytes_of pages)) kept in
     let owned : owners triple_cmp stored records t ≤ map.len records =
     omega (arith, count_by-le-length (λ entry. has triple_cmp t (triples_at stored entry)) (map.entries records), map.len-entries records) in
     let count : count_of (counts_in s) t ≡ owners triple_cmp stored records t = h.lean.counts t in

@@ -21,7 +21,8 @@ use Rattle.lean_holdings.specs.declared.kept.LeanPage.{LeanPage}
 use Rattle.lean_holdings.specs.{Going.CountsIn, Going.PutsIn, Holding.IsKept, Holding.counted_by, Holding.strangers_on}
 use Rattle.lean_holdings.specs.Kept.{KeptRecords, kept_of, keys_held, piece_at, record_with, seen}
 use Rattle.lean_holdings.proofs.Naming.{counted_more, named_alike, named_held, names_follow}
-use Rattle.lean_holdings.proofs.{Lasting.held_again, Lasting.keys_same, Lasting.keys_stay, Lasting.record_elsewhere, Lasting.record_here, Seen.seen_moved}
+use Rattle.holders.proofs.{Pieced.held_again, Keyed.keys_same, Keyed.keys_stay, Records.record_elsewhere, Records.record_here}
+use Rattle.lean_holdings.proofs.Seen.{seen_moved}
 
 -- the keys of what an entity holds stay where what is stored of it does
 pub others_keyed : (before after : Meaning Triple) (s s2 : StoreState) (records records2 : Records) (y : EntityId) (keys : List Key)
@@ -36,7 +37,7 @@ others_keyed before after s s2 records records2 y keys counts keeps same h =
 
 -- ---- an entity is counted in
 
-shares : (s a : Bool) → one_if a ≡ one_if (not s && a) + one_if (s && a)
+pub shares : (s a : Bool) → one_if a ≡ one_if (not s && a) + one_if (s && a)
 shares true true = refl
 shares true false = refl
 shares false true = refl

@@ -1,8 +1,8 @@
-pub mod ByVersion
 pub mod CountedIn
+pub mod CountedOut
 pub mod Going
+pub mod GoingOut
 pub mod InStep
-pub mod Lasting
 pub mod Moved
 pub mod Naming
 pub mod Needing
@@ -16,4 +16,3 @@ pub mod Short
 pub mod Staying
 pub mod Stepping
 pub mod Strange
-pub mod Values

@@ -19,8 +19,9 @@ use Rattle.replay_model.proofs.Owners.{has-union}
 use Rattle.fetched_pages.specs.Meaning.{meaning}
 use Rattle.shared_triples.specs.{Home.home_of, Lean.is_entity, Lean.is_own, Lean.stored_of, Lean.strangers, Lean.triples_of}
 use Rattle.shared_triples.proofs.{Holding.holder, Holding.in_union, Parting.both_true, Parting.has-stored}
-use Rattle.lean_holdings.specs.{Changing.counted_with, Changing.needs, Holding.counted_by, InStep.LeanState, InStep.room_with}
-use Rattle.lean_holdings.proofs.Rooming.{distinct_same}
+use Rattle.holders.specs.Roomed.{room_with}
+use Rattle.lean_holdings.specs.{Changing.counted_with, Changing.needs, Holding.counted_by, InStep.LeanState}
+use Rattle.holders.proofs.Rooming.{distinct_same}
 
 -- ---- terms
 
@@ -100,16 +101,21 @@ in_take : (y : EntityId) (n : ℕ) (ids : List EntityId) → has entity_cmp y (t
 in_take y n ids there =
     ap (has entity_cmp y) (sym (take-append-drop n ids)) ∙ has-append entity_cmp y (take n ids) (drop n ids) ∙ or_left (has entity_cmp y (take n ids)) _ there
 
+pub some_counted : (names names2 : Naming) (ids : List EntityId) (n : ℕ)
+    → ((y : EntityId) → has entity_cmp y (counted_by names2) ≡ (has entity_cmp y (take n ids) || has entity_cmp y (counted_by names)))
+    → (y : EntityId) → has entity_cmp y (counted_by names2) ≡ true → (has entity_cmp y ids || has entity_cmp y (counted_by names)) ≡ true
+some_counted names names2 ids n so y there = ⊎_elim
+    (λ own. or_left (has entity_cmp y ids) _ (in_take y n ids own))
+    (λ other. or_true (has entity_cmp y ids) _ other)
+    (one_of (has entity_cmp y (take n ids)) (has entity_cmp y (counted_by names)) (sym (so y) ∙ there))
+
 pub no_room : (limit : ℕ) (m : Meaning Triple) (records : Records) (names names2 : Naming) (ids : List EntityId) (n : ℕ) (id : EntityId) → take n ids ++ id ∷ [] ≡ take (n + 1) ids
     → ((y : EntityId) → has entity_cmp y (counted_by names2) ≡ (has entity_cmp y (take n ids) || has entity_cmp y (counted_by names)))
     → limit < room_with (stored_of (counted_by names2) m) records (triples_of m records id)
     → limit < room_with (stored_of (ids ++ counted_by names) m) records []
 no_room limit m records names names2 ids n id one_more so few =
     full_more (counted_by names2) (ids ++ counted_by names) m records
-    (λ y there. has-append entity_cmp y ids (counted_by names) ∙ ⊎_elim
-    (λ own. or_left (has entity_cmp y ids) _ (in_take y n ids own))
-    (λ other. or_true (has entity_cmp y ids) _ other)
-    (one_of (has entity_cmp y (take n ids)) (has entity_cmp y (counted_by names)) (sym (so y) ∙ there)))
+    (λ y there. has-append entity_cmp y ids (counted_by names) ∙ some_counted names names2 ids n so y there)
     limit id
     (has-append entity_cmp id ids (counted_by names) ∙ or_left (has entity_cmp id ids) _ (in_take id (n + 1) ids
     (ap (has entity_cmp id) (sym one_more) ∙ has-append entity_cmp id (take n ids) (id ∷ []) ∙ or_true (has entity_cmp id (take n ids)) _ (has_itself entity_cmp_total id []))))

@@ -15,7 +15,8 @@ use Rattle.entity_counts.specs.Naming.{Naming, pages_naming}
 use Rattle.lean_holdings.specs.declared.kept.LeanPage.{LeanPage}
 use Rattle.lean_holdings.specs.{Freeing.FreesPiece, Going.PutsIn, Holding.IsKept, Holding.counted_by}
 use Rattle.lean_holdings.specs.Kept.{KeptRecords, held_with, kept_of, keys_held, piece_at, piece_held, seen}
-use Rattle.lean_holdings.proofs.{Going.goes_in, Lasting.keys_same, Pieces.new_text, Pieces.pieces_come, Pieces.texts_stay, Seen.seen_moved}
+use Rattle.holders.proofs.Keyed.{keys_same}
+use Rattle.lean_holdings.proofs.{Going.goes_in, Pieces.new_text, Pieces.pieces_come, Pieces.texts_stay, Seen.seen_moved}
 
 -- the entities that what is held names go by the entities that were named
 module _ (m n : Meaning Triple) (x : EntityId) (agree : (y : EntityId) → y ≢ x → (rev : ℕ) (bytes : Bytes) → n y rev bytes ≡ m y rev bytes)

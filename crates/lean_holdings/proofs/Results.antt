@@ -6,6 +6,15 @@ pub on_err : {A B P Q : Type 0} → (P → Q) → (r : Result A B) → OnErr r P
 on_err f (Ok x) h = tt
 on_err f (Err e) h = f h
 
+pub on_ok_then : {A B P Q : Type 0} → (P → Q) → (r : Result A B) → OnOk r P → OnOk r Q
+on_ok_then f (Ok x) h = f h
+on_ok_then f (Err e) h = tt
+
+-- what is so either way
+pub either_way : {A B P : Type 0} → (r : Result A B) → OnOk r P → OnErr r P → P
+either_way (Ok x) h k = h
+either_way (Err e) h k = k
+
 -- what is so anyway
 pub if_ok : {A B P : Type 0} → (r : Result A B) → P → OnOk r P
 if_ok (Ok x) h = h

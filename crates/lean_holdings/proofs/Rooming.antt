@@ -1,12 +1,11 @@
 -- The room that the stored triples take.
-use Rattle.std.proofs.Common.{◌≡◌, ℕ, ◌<◌, ◌≤◌, true, ◌||◌, List, [], ◌∷◌, ◌++◌, Option, Some, None, is_some, unwrap_or, nat_lt, lt-ltb, flat_map, length, refl, sym, ◌∙◌, ap, arith}
+use Rattle.std.proofs.Common.{◌≡◌, ℕ, ◌<◌, ◌≤◌, true, ◌||◌, List, [], ◌++◌, Option, Some, None, is_some, unwrap_or, nat_lt, lt-ltb, flat_map, refl, sym, ◌∙◌, ap, arith}
 use Rattle.std.specs.FinMap as map
-use Rattle.std.specs.List.{list_any}
-use Rattle.sorted_sets.specs.Rising.{has, sorted}
-use Rattle.sorted_sets.proofs.{Finding.list_any-sorted, Rising.has-append, Rising.same_rising, Rising.sorted_same}
-use Rattle.rdf_term.specs.{declared.term.Term.Term, declared.triple.Triple.Triple}
-use Rattle.rdf_term.specs.Order.{term_cmp, term_cmp-total, triple_cmp, triple_cmp-total}
-use Rattle.rdf_term.proofs.Texts.{term_cmp-IsAntisymmetric, triple_cmp-IsAntisymmetric}
+use Rattle.sorted_sets.specs.Rising.{has}
+use Rattle.sorted_sets.proofs.Rising.{has-append, same_rising}
+use Rattle.rdf_term.specs.declared.triple.Triple.{Triple}
+use Rattle.rdf_term.specs.Order.{triple_cmp, triple_cmp-total}
+use Rattle.rdf_term.proofs.Texts.{triple_cmp-IsAntisymmetric}
 use Rattle.entity_model.specs.declared.id.EntityId.{EntityId}
 use Rattle.triple_catalog.specs.{Counts.Counts, Counts.HaveOwners, Counts.count_of, Room.distinct, Room.room_for, Room.terms_of}
 use Rattle.triple_store.specs.StoreState.{IsSound, StoreState, counts_in, limit_of}
@@ -15,7 +14,8 @@ use Rattle.slot_index.proofs.Mapped.{rising_keys}
 use Rattle.replay_model.specs.{Records.Records, Union.Meaning, Union.union}
 use Rattle.replay_model.proofs.Owners.{has-union, union-rises}
 use Rattle.shared_triples.specs.Lean.{IsLean, count_in, stored_of}
-use Rattle.lean_holdings.specs.InStep.{HasRoom, room_with}
+use Rattle.holders.specs.Roomed.{HasRoom, room_with}
+use Rattle.holders.proofs.Rooming.{distinct_same}
 
 -- a triple is stored where it has an owner
 stored : (counts : Counts) (t : Triple) → HaveOwners counts → map.contains_key counts t ≡ nat_lt 0 (count_of counts t)
@@ -24,21 +24,6 @@ stored counts t h = by (map.get counts t) (h t)
     by : (v : Option ℕ) → (is_some v ≡ true → 0 < unwrap_or v 0) → is_some v ≡ nat_lt 0 (unwrap_or v 0)
     by None some = refl
     by (Some n) some = sym (lt-ltb 0 n (some refl))
-
-has_term : (q : Term) (ts : List Triple) → has term_cmp q (flat_map terms_of ts) ≡ list_any (λ t. has term_cmp q (terms_of t)) ts
-has_term q [] = refl
-has_term q (t ∷ ts) = has-append term_cmp q (terms_of t) (flat_map terms_of ts) ∙ ap (λ b. has term_cmp q (terms_of t) || b) (has_term q ts)
-
--- triples of one set have the same terms
-pub distinct_same : (ts us : List Triple) → ((t : Triple) → has triple_cmp t ts ≡ has triple_cmp t us) → distinct (flat_map terms_of ts) ≡ distinct (flat_map terms_of us)
-distinct_same ts us same =
-    let set : sorted triple_cmp ts ≡ sorted triple_cmp us = sorted_same triple_cmp-total triple_cmp-IsAntisymmetric ts us same in
-    ap length (sorted_same term_cmp-total term_cmp-IsAntisymmetric (flat_map terms_of ts) (flat_map terms_of us) (λ q.
-    has_term q ts
-    ∙ sym (list_any-sorted triple_cmp triple_cmp-IsAntisymmetric (λ t. has term_cmp q (terms_of t)) ts)
-    ∙ ap (list_any (λ t. has term_cmp q (terms_of t))) set
-    ∙ list_any-sorted triple_cmp triple_cmp-IsAntisymmetric (λ t. has term_cmp q (terms_of t)) us
-    ∙ sym (has_term q us)))
 
 module _ (m : Meaning Triple) (counted : List EntityId) (s : StoreState) (records : Records) (sound : IsSound s) (h : IsLean m counted (count_in (counts_in s)) records) where
   -- the stored triples are the union of what is stored of each page

@@ -9,8 +9,9 @@ use Rattle.text_region.specs.declared.piece.Piece.{Piece}
 use Rattle.replay_model.specs.Records.{Bytes, record_of}
 use Rattle.shared_triples.proofs.Holding.{id_tells}
 use Rattle.lean_holdings.specs.declared.kept.LeanPage.{LeanPage}
-use Rattle.lean_holdings.specs.Kept.{KeptRecords, PieceTexts, held_with, kept_of, piece_at, piece_held, record_with, records_with}
-use Rattle.lean_holdings.proofs.Values.{changed, get-values, values-insert}
+use Rattle.holders.specs.Pieces.{PieceTexts}
+use Rattle.lean_holdings.specs.Kept.{KeptRecords, held_with, kept_of, piece_at, piece_held, record_with, records_with}
+use Rattle.holders.proofs.Values.{changed, get-values, values-insert}
 
 -- the record of an entity among the records that are seen
 pub seen_of : (f : PieceTexts) (kept : KeptRecords) (x : EntityId) → record_of (records_with f kept) x ≡ record_with f (kept_of kept x)

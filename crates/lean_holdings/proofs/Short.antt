@@ -1,5 +1,5 @@
 -- A document has few bytes, and bytes that are no document mean nothing.
-use Rattle.std.proofs.Common.{◌≡◌, ◌≤◌, Bool, true, false, cond, nat_lt, List, ℕ, [], Some, None, Result, Ok, Err, is_some, length, refl, sym, ap, true≢false, arith}
+use Rattle.std.proofs.Common.{◌≡◌, ◌≤◌, Bool, true, false, cond, nat_lt, List, ℕ, [], Some, None, Result, Ok, Err, is_some, length, refl, sym, ap, true≢false}
 use Rattle.std.proofs.lemmas.Bool.{ltb-false}
 use Rattle.entity_model.specs.{declared.id.EntityId.EntityId, declared.document.Document.Document}
 use Rattle.entity_model.specs.{declared.unfit.Unfit.Unfit, declared.unfit.Unfit.TheVariants.Large}

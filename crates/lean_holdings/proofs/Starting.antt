@@ -1,5 +1,5 @@
 -- Without records, triples, pages and names all is in step.
-use Rattle.std.proofs.Common.{◌≡◌, ℕ, List, [], Some, None, is_some, unwrap_or, sym, ◌∙◌, ap, subst, true≢false}
+use Rattle.std.proofs.Common.{◌≡◌, ℕ, [], Some, None, is_some, unwrap_or, sym, ◌∙◌, ap, subst, true≢false}
 use Rattle.std.specs.FinMap as map
 use Rattle.rdf_term.specs.{declared.triple.Triple.Triple, Order.triple_cmp}
 use Rattle.entity_model.specs.{declared.id.EntityId.EntityId, EntityId.entity_cmp}
@@ -13,9 +13,11 @@ use Rattle.shared_triples.specs.Lean.{IsLean, count_in, stored_of}
 use Rattle.entity_counts.specs.Naming.{Naming}
 use Rattle.shared_triples.proofs.Keeping.{at_start}
 use Rattle.lean_holdings.specs.declared.kept.LeanPage.{LeanPage}
-use Rattle.lean_holdings.specs.{Holders.ByVersion, Holding.IsKept, Holding.counted_by, Holding.strangers_on, InStep.AreInStep, InStep.LeanState}
+use Rattle.holders.specs.Holders.{ByVersion}
+use Rattle.lean_holdings.specs.{Holding.IsKept, Holding.counted_by, Holding.strangers_on, InStep.AreInStep, InStep.LeanState}
 use Rattle.lean_holdings.specs.Kept.{KeptRecords, kept_of, keys_held, piece_at, piece_held, record_with, seen}
-use Rattle.lean_holdings.proofs.{Naming.nobody_names, Values.values_empty}
+use Rattle.holders.proofs.Values.{values_empty}
+use Rattle.lean_holdings.proofs.Naming.{nobody_names}
 
 seen_nothing : (pages : Texts) → seen pages map.empty ≡ map.empty
 seen_nothing pages = values_empty (record_with (bytes_of pages))

@@ -18,8 +18,10 @@ use Rattle.shared_triples.proofs.Holding.{id_tells}
 use Rattle.entity_counts.specs.Naming.{Naming, counted_in, pages_naming}
 use Rattle.lean_holdings.specs.declared.kept.LeanPage.{LeanPage}
 use Rattle.lean_holdings.specs.{Going.CountsIn, Going.PutsIn, Holding.IsKept, Holding.counted_by}
-use Rattle.lean_holdings.specs.Kept.{KeptRecords, PieceTexts, held_keys, held_with, kept_of, keys_held, piece_at, piece_held, record_with, seen, with_keys}
-use Rattle.lean_holdings.proofs.{Going.goes_counted, Going.goes_in, Lasting.held_again, Lasting.keys_same, Lasting.record_elsewhere, Lasting.record_here, Seen.held_is, Seen.seen_moved, Seen.seen_of}
+use Rattle.holders.specs.Pieces.{PieceTexts}
+use Rattle.lean_holdings.specs.Kept.{KeptRecords, held_keys, held_with, kept_of, keys_held, piece_at, piece_held, record_with, seen, with_keys}
+use Rattle.holders.proofs.{Pieced.held_again, Keyed.keys_same, Records.record_elsewhere, Records.record_here}
+use Rattle.lean_holdings.proofs.{Going.goes_counted, Going.goes_in, Seen.held_is, Seen.seen_moved, Seen.seen_of}
 
 -- ---- the same page
 
@@ -132,14 +134,14 @@ module _ (kept : KeptRecords) (x : EntityId) (keys : Keys) (there : is_some (kep
       let held : is_some (record_of (seen pages kept) x).held ≡ true = ap is_some (held_is f kept x) ∙ some_seen f (kept_of kept x).held ∙ there in
       seen_moved f f kept x anew (λ y p other is. refl) ∙ ap (map.insert (seen pages kept) x) same ∙ put_same (seen pages kept) x held
 
-  pieces_still : (y : EntityId) → piece_at (map.insert kept x anew) y ≡ piece_at kept y
+  pub pieces_still : (y : EntityId) → piece_at (map.insert kept x anew) y ≡ piece_at kept y
   pieces_still y = ⊎_elim
       (λ own. ap (λ z. piece_at (map.insert kept x anew) z) own.1 ∙ ap (λ (was : Record LeanPage). piece_held was.held) (record_here kept x anew)
       ∙ piece_still (kept_of kept x).held keys ∙ ap (piece_at kept) (sym own.1))
       (λ other. ap (λ (was : Record LeanPage). piece_held was.held) (record_elsewhere kept x anew y other.1))
       (id_tells y x)
 
-  own_keys : keys_held (kept_of (map.insert kept x anew) x).held ≡ keys.rising.items
+  pub own_keys : keys_held (kept_of (map.insert kept x anew) x).held ≡ keys.rising.items
   own_keys = ap (λ (was : Record LeanPage). keys_held was.held) (record_here kept x anew) ∙ keys_are (kept_of kept x).held keys there
 
   module _ (m : Meaning Triple) (s s2 : StoreState) (pages : Texts) (names : Naming) (ts : List Triple) (h : IsKept m s pages names kept)

@@ -22,12 +22,14 @@ use Rattle.entity_counts.specs.Naming.{Naming}
 use Rattle.parts_exchange.specs.{declared.exchanging.PartsChange.PartsChange, declared.exchanging.PartsExchange.PartsExchange, Exchanged.AreMerged, Exchanged.IsPartsChange}
 use Rattle.parts_exchange.proofs.Telling.{merged}
 use Rattle.lean_holdings.specs.{declared.kept.LeanPage.LeanPage, declared.parts.NamedParts.NamedParts, Changing.IsChangeOf, Freeing.FreesPiece}
-use Rattle.lean_holdings.specs.{Holders.AreBy, Holders.ByVersion, Holding.HavePieces, Holding.IsKept, Holding.counted_by, Holding.strangers_on, InStep.AreInStep}
+use Rattle.holders.specs.{Holders.AreBy, Holders.ByVersion, Pieces.IsHeld, Pieces.PieceTexts}
+use Rattle.lean_holdings.specs.{Holding.IsKept, Holding.counted_by, Holding.strangers_on, InStep.AreInStep}
 use Rattle.lean_holdings.specs.{Moving.ArePartsOf, Moving.HasMoved, Moving.MayMove}
-use Rattle.lean_holdings.specs.Kept.{KeptRecords, PieceTexts, held_keys, kept_of, keys_held, piece_at, records_with, seen, with_keys}
-use Rattle.lean_holdings.proofs.ByVersion.{by_drop, by_put, meaning_other, moved_by_two, moved_out, moved_to, version_own}
-use Rattle.lean_holdings.proofs.{CountedIn.still_kept, Lasting.record_here, Putting.gone_seen, Putting.page_comes, Putting.page_goes, Putting.page_seen}
-use Rattle.lean_holdings.proofs.{Staying.keys_unseen, Staying.page_again, Staying.put_same, Strange.few_name, Strange.some_names}
+use Rattle.lean_holdings.specs.Kept.{KeptRecords, held_keys, holds_in, kept_of, keys_held, piece_at, records_with, seen, with_keys}
+use Rattle.holders.proofs.ByVersion.{by_drop, by_put, meaning_other, moved_out, moved_to, version_own}
+use Rattle.holders.proofs.Records.{record_here}
+use Rattle.lean_holdings.proofs.{CountedIn.still_kept, InStep.others_hold, InStep.own_holds, Putting.gone_seen, Putting.page_comes, Putting.page_goes, Putting.page_seen}
+use Rattle.lean_holdings.proofs.{Staying.page_again, Strange.few_name, Strange.some_names}
 
 some_keys : (h : Option (Held LeanPage)) (keys : Keys) → is_some h ≡ true → is_some (held_keys h keys) ≡ true
 some_keys None keys is = is
@@ -99,7 +101,7 @@ kept_again m s pages pages2 names kept same h =
       sound = h.sound;
       lean = subst (λ (f : KeptRecords → Records). IsLean m (counted_by names) (count_in (counts_in s)) (f kept)) alike h.lean;
       named = λ y. h.named y ∙ ap (λ (f : KeptRecords → Records). owners entity_cmp (strangers_on m) (f kept) y) alike;
-      pieces = subst (λ (f : PieceTexts). HavePieces f (piece_at kept)) (λ i p. sym (same p) i) h.pieces;
+      pieces = subst (λ (f : PieceTexts). IsHeld f (piece_at kept)) (λ i p. sym (same p) i) h.pieces;
       keyed = λ y. subst (λ (f : KeptRecords → Records). AreKeysOf s (keys_held (kept_of kept y).held) (triples_of (stored_of (counted_by names) m) (f kept) y)) alike (h.keyed y);
     }
 
@@ -199,7 +201,7 @@ module _ (s : StoreState) (pages : Texts) (names : Naming) (ids : ByVersion) (ke
           kept = page_comes before after x agree s s2 pages pages2 pages3 names names2 kept state reconciled gone.names.items come.names.items come.parts.shared
               h.kept freed moved.counted moved.named gone_are.names moved.rest.sound moved.rest.keeps counts
               rev content bytes vacant placed come_now.names known moved.exchanged.keys_are come_now.stored;
-          by = subst (λ (i : ByVersion). AreBy i (map.insert kept x page)) (sym is) (by_put ids kept x v page h.by refl);
+          by = subst (λ (i : ByVersion). AreBy i (holds_in (map.insert kept x page))) (sym is) (by_put ids (holds_in kept) (holds_in (map.insert kept x page)) x v h.by (others_hold kept x page) (own_holds kept x page));
         }
 
         pub page_step_seen : seen pages3 (map.insert kept x page) ≡ map.insert records x (record { state = state; held = Some (record { revision = rev; content = bytes }); reconciled = reconciled })
@@ -217,8 +219,8 @@ module _ (s : StoreState) (pages : Texts) (names : Naming) (ids : ByVersion) (ke
         again_step is = record {
           kept = page_again kept x done.keys there before after agree s s2 pages names names2 gone.names.items come.names.items come.parts.shared
               h.kept moved.counted moved.named gone_are.names again_now.names known moved.rest.sound moved.rest.keeps counts moved.exchanged.keys_are again_now.stored;
-          by = subst (λ (i : ByVersion). AreBy i (map.insert kept x (with_keys (kept_of kept x) done.keys))) (sym is)
-              (by_put ids kept x v (with_keys (kept_of kept x) done.keys) h.by (some_keys (kept_of kept x).held done.keys there));
+          by = subst (λ (i : ByVersion). AreBy i (holds_in (map.insert kept x (with_keys (kept_of kept x) done.keys)))) (sym is)
+              (by_put ids (holds_in kept) _ x v h.by (others_hold kept x (with_keys (kept_of kept x) done.keys)) (own_holds kept x (with_keys (kept_of kept x) done.keys) ∙ some_keys (kept_of kept x).held done.keys there));
         }
 
   -- ---- what was held goes
@@ -243,7 +245,7 @@ module _ (s : StoreState) (pages : Texts) (names : Naming) (ids : ByVersion) (ke
       kept = page_goes before (after One ids2 out2) x (agree One ids2 out2) s s2 pages pages pages2 names names2 kept state reconciled gone.names.items come.names.items come.parts.shared
           h.kept freed moved.counted moved.named gone_are.names moved.rest.sound moved.rest.keeps (counts One ids2 out2 s2 names2 keys gone come done gone_are keys_are moved)
           (λ p. refl) (come_are before).names none_shared;
-      by = subst (λ (i : ByVersion). AreBy i (map.insert kept x none)) (sym is) (by_drop ids kept x none h.by refl);
+      by = subst (λ (i : ByVersion). AreBy i (holds_in (map.insert kept x none))) (sym is) (by_drop ids (holds_in kept) (holds_in (map.insert kept x none)) x h.by (others_hold kept x none) (own_holds kept x none));
     }
 
     pub gone_step_seen : seen pages2 (map.insert kept x none) ≡ map.insert records x (record { state = state; held = None; reconciled = reconciled })

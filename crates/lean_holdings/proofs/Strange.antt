@@ -1,7 +1,7 @@
 -- What a page that comes or goes may name.
-use Rattle.std.proofs.Common.{◌≡◌, ℕ, ◌+◌, ◌<◌, ◌≤◌, true, false, cond, ◌||◌, List, [], ◌∷◌, Option, Some, None, length, refl, sym, ◌∙◌, ap, ⊎_elim, arith}
+use Rattle.std.proofs.Common.{◌≡◌, ℕ, ◌+◌, ◌<◌, ◌≤◌, true, false, cond, ◌||◌, List, [], ◌∷◌, Option, Some, None, refl, sym, ◌∙◌, ap, ⊎_elim, arith}
 use Rattle.std.specs.FinMap as map
-use Rattle.std.proofs.lemmas.{List.length-map, List.Sums.count_by-le-length}
+use Rattle.std.proofs.lemmas.List.Sums.{count_by-le-length}
 use Rattle.sorted_sets.specs.{Counting.one_if, Rising.has}
 use Rattle.sorted_sets.proofs.{Bools.or_false, Rising.has-append}
 use Rattle.rdf_term.specs.declared.triple.Triple.{Triple}
@@ -15,7 +15,8 @@ use Rattle.shared_triples.proofs.Holding.{id_tells}
 use Rattle.entity_counts.specs.Naming.{Naming, pages_naming}
 use Rattle.lean_holdings.specs.{Holding.IsKept, Holding.strangers_on}
 use Rattle.lean_holdings.specs.Kept.{KeptRecords, record_with, seen}
-use Rattle.lean_holdings.proofs.{Naming.moved, Naming.named_held, Values.values_keys}
+use Rattle.holders.proofs.Values.{values_len}
+use Rattle.lean_holdings.proofs.Naming.{moved, named_held}
 
 no_stranger : (x : EntityId) (home : Option EntityId) → has entity_cmp x (stranger x home) ≡ false
 no_stranger x None = refl
@@ -30,14 +31,11 @@ not_itself x [] = refl
 not_itself x (t ∷ ts) = has-append entity_cmp x (stranger x (home_of t)) (strangers x ts) ∙ or_false _ _ (no_stranger x (home_of t)) (not_itself x ts)
 
 module _ (m : Meaning Triple) (s : StoreState) (pages : Texts) (names : Naming) (kept : KeptRecords) (h : IsKept m s pages names kept) where
-  len_keys : {X : Type 0} (k : map.FinMap entity_cmp X) → map.len k ≡ length (map.keys k)
-  len_keys k = map.len-entries k ∙ sym (length-map (map.entries k) (λ e. e.0))
-
   -- no more pages name an entity than there are
   pub few_name : (n : ℕ) → map.len kept < n → (y : EntityId) → pages_naming names y < n
   few_name n few y =
       let records : Records = seen pages kept in
-      let as_many : map.len records ≡ map.len kept = len_keys records ∙ ap length (values_keys (record_with (bytes_of pages)) kept) ∙ sym (len_keys kept) in
+      let as_many : map.len records ≡ map.len kept = values_len (record_with (bytes_of pages)) kept in
       let owned : owners entity_cmp (strangers_on m) records y ≤ map.len records =
       omega (arith, count_by-le-length (λ entry. has entity_cmp y (triples_at (strangers_on m) entry)) (map.entries records), map.len-entries records) in
       let count : pages_naming names y ≡ owners entity_cmp (strangers_on m) records y = h.named y in

@@ -1,14 +1,16 @@
 -- What a step changes of the triples that all held pages mean, and how much room it needs.
-use Rattle.std.specs.Prelude.{ℕ, List, ◌++◌, Option}
+use Rattle.std.specs.Prelude.{ℕ, List, ◌++◌, Option, None, Some}
 use Rattle.sorted_sets.specs.Rising.{difference}
 use Rattle.rdf_term.specs.{declared.triple.Triple.Triple, Order.triple_cmp}
 use Rattle.entity_model.specs.{declared.id.EntityId.EntityId, declared.mapping.MappingVersion.MappingVersion}
+use Rattle.entity_model.specs.declared.mapping.MappingVersion.TheVariants.{One}
 use Rattle.entity_state.specs.declared.record.Held.{Held}
-use Rattle.replay_model.specs.{Records.Bytes, Union.triples_held, Union.union, Versions.meaning_by}
+use Rattle.replay_model.specs.{Records.Bytes, Union.triples_held, Union.union, Versions.meaning_by, Versions.with_version}
 use Rattle.fetched_pages.specs.Meaning.{meaning}
 use Rattle.shared_triples.specs.Lean.{stored_of, strangers}
 use Rattle.parts_exchange.specs.{declared.exchanging.PartsChange.PartsChange, Exchanged.AreMerged}
-use Rattle.lean_holdings.specs.{Holding.counted_by, InStep.LeanState, InStep.room_with}
+use Rattle.holders.specs.Roomed.{room_with}
+use Rattle.lean_holdings.specs.{Holding.counted_by, InStep.LeanState}
 
 -- the triples of all that is held, each page mapped by its version
 abbrev pub held_triples : LeanState → List Triple
@@ -29,3 +31,8 @@ abbrev pub needs : LeanState → MappingVersion → EntityId → Option (Held By
 needs h version x held =
     room_with (stored_of (counted_with (counted_by h.names) x (triples_held (meaning version) x held)) (meaning_by meaning h.by_two)) h.records
     (triples_held (stored_of (counted_with (counted_by h.names) x (triples_held (meaning version) x held)) (meaning version)) x held)
+
+-- the entities that hold by version Two once the record of x is put in, where what it holds is mapped by this version
+abbrev pub by_two_with : MappingVersion → EntityId → Option (Held Bytes) → List EntityId → List EntityId
+by_two_with version x None by_two = with_version One x by_two
+by_two_with version x (Some held) by_two = with_version version x by_two

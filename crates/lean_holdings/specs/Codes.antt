@@ -7,7 +7,7 @@ use Rattle.entity_model.specs.contracts.id.EntityId as entity_id
 use Rattle.entity_state.specs.Tabled.{record_code}
 use Rattle.replay_model.specs.Records.{Records}
 use Rattle.entity_counts.specs.Naming.{Naming, naming_code}
-use Rattle.lean_holdings.specs.{Holders.ByVersion, InStep.LeanState}
+use Rattle.lean_holdings.specs.InStep.{LeanState}
 
 abbrev records_code : Coded Records
 records_code = map.code (entity_id.the_row).coded (record_code (coded_list coded_ℕ))
@@ -16,9 +16,3 @@ abbrev pub lean_code : Coded LeanState
 lean_code =
     code_by (Records × (ℕ × (List EntityId × Naming))) (coded× records_code (coded× coded_ℕ (coded× (coded_list (entity_id.the_row).coded) naming_code)))
     (λ h. (h.records, (h.limit, (h.by_two, h.names)))) (λ c. record { records = c.0; limit = c.1.0; by_two = c.1.1.0; names = c.1.1.1 }) (λ _. refl)
-
--- the entities that hold, by version
-abbrev pub holders_code : Coded ByVersion
-holders_code =
-    code_by (List EntityId × List EntityId) (coded× (coded_list (entity_id.the_row).coded) (coded_list (entity_id.the_row).coded))
-    (λ h. (h.by_one, h.by_two)) (λ c. record { by_one = c.0; by_two = c.1 }) (λ _. refl)

@@ -1,12 +1,12 @@
 -- What is kept of each entity, and the records that this is with the packed pages.
-use Rattle.std.specs.Prelude.{List, [], Option, None, Some, unwrap_or}
-use Rattle.std.specs.Prelude.{map as mapped}
+use Rattle.std.specs.Prelude.{Bool, List, [], Option, None, Some, is_some, unwrap_or}
 use Rattle.std.specs.FinMap as map
 use Rattle.entity_model.specs.{declared.id.EntityId.EntityId, EntityId.entity_cmp}
 use Rattle.entity_state.specs.{declared.record.Held.Held, declared.record.Record.Record, Record.blank}
 use Rattle.text_region.specs.{declared.piece.Piece.Piece, Region.Texts, Region.bytes_of}
 use Rattle.slot_keys.specs.{declared.key.Key.Key, declared.keys.Keys.Keys}
 use Rattle.replay_model.specs.Records.{Bytes, Records}
+use Rattle.holders.specs.{Pieces.PieceTexts, Values.with_values}
 use Rattle.lean_holdings.specs.declared.kept.LeanPage.{LeanPage}
 
 -- the records of the entities, each with what is kept of the page that its entity holds
@@ -17,9 +17,9 @@ KeptRecords = map.FinMap entity_cmp (Record LeanPage)
 abbrev pub kept_of : KeptRecords → EntityId → Record LeanPage
 kept_of kept x = unwrap_or (map.get kept x) blank
 
--- the text of each piece, none where it isn't live
-abbrev pub PieceTexts : Type 0
-PieceTexts = Piece → Option Bytes
+-- whether an entity holds a page
+abbrev pub holds_in : KeptRecords → EntityId → Bool
+holds_in kept x = is_some (kept_of kept x).held
 
 -- what is held, with the text of its piece
 abbrev pub held_with : PieceTexts → Option (Held LeanPage) → Option (Held Bytes)
@@ -28,10 +28,6 @@ held_with text (Some h) = Some (record { revision = h.revision; content = unwrap
 
 abbrev pub record_with : PieceTexts → Record LeanPage → Record Bytes
 record_with text r = record { state = r.state; held = held_with text r.held; reconciled = r.reconciled }
-
--- the map with another value at each of its keys
-unfoldable pub with_values : {X Y : Type 0} → (X → Y) → map.FinMap entity_cmp X → map.FinMap entity_cmp Y
-with_values change m = map.from_entries (mapped (λ e. (e.0, change e.1)) (map.entries m))
 
 abbrev pub records_with : PieceTexts → KeptRecords → Records
 records_with text kept = with_values (record_with text) kept

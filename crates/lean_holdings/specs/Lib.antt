@@ -2,9 +2,7 @@ pub mod Changing
 pub mod Codes
 pub mod Freeing
 pub mod Going
-pub mod Holders
 pub mod Holding
 pub mod InStep
 pub mod Kept
 pub mod Moving
-pub mod Stale

@@ -1,6 +1,6 @@
 // An entity holds a page from now on, or holds nothing any longer.
 
-ghost use Rattle.std.specs.Prelude.{◌≡◌, ◌<◌, ◌≤◌, ◌||◌, ◌++◌, List, [], None, Some, Err, IfOk, OnErr, OnOk, length};
+ghost use Rattle.std.specs.Prelude.{◌≡◌, ◌<◌, ◌≤◌, ◌||◌, ◌++◌, List, [], true, None, Some, Err, IfOk, OnErr, OnOk, length};
 ghost use Rattle.std.specs.FinMap as map;
 ghost use Rattle.sorted_sets.specs.Rising.{has};
 ghost use Rattle.rdf_term.specs.declared.triple.Triple.{Triple};
@@ -11,10 +11,10 @@ ghost use Rattle.replay_model.specs.{Records.record_of, Union.Meaning, Versions.
 ghost use Rattle.fetched_pages.specs.Meaning.{meaning};
 ghost use Rattle.shared_triples.specs.Lean.{AreCounted, stored_of};
 ghost use Rattle.entity_counts.specs.Naming.{pages_naming};
-ghost use Rattle.lean_holdings.specs.{Changing.IsChangeOf, Changing.held_triples, Changing.needs};
-ghost use Rattle.lean_holdings.specs.{Holding.counted_by, InStep.room_with, Moving.ArePartsOf};
+ghost use Rattle.lean_holdings.specs.{Changing.IsChangeOf, Changing.counted_with, Changing.held_triples, Changing.needs};
+ghost use Rattle.holders.specs.Roomed.{room_with};
+ghost use Rattle.lean_holdings.specs.{Holding.counted_by, Moving.ArePartsOf};
 
-use crate::holders::other;
 use crate::holdings::LeanHoldings;
 use crate::kept::{LeanPage, keys_of};
 use crate::moving::{Moving, move_parts};
@@ -23,6 +23,7 @@ use crate::records::{make_room, replace, version_in};
 use entity_model::{EntityId, MappingVersion};
 use entity_state::{Held, Standing};
 use fetched_pages::Wanted;
+use holders::other;
 use page_packing::Unpacker;
 use parts_exchange::{PartsChange, PartsExchange};
 use rdf_term::OutOfMemory;
@@ -30,8 +31,9 @@ use triple_store::StoreFault;
 
 impl LeanHoldings {
     /// Sets the record of an entity, which holds the page of the wanted revision from now on, and tells the change of the triples that
-    /// the held pages mean. All entities that the page names are counted then; pages are unpacked into a buffer. After a fault some of
-    /// these may be counted, and everything else is as it was. The fault is `Full` if the triples that are to be stored have, with the
+    /// the held pages mean. All entities that the page names are counted then. Those that the page before it named, and that none names
+    /// now, are counted no longer, as far as there is memory for it. Pages are unpacked into a buffer. After a fault some that the page
+    /// names may be counted, and everything else is as it was. The fault is `Full` if the triples that are to be stored have, with the
     /// stored ones, more distinct terms than the limit.
     pub fn hold(
         &mut self,
@@ -52,6 +54,9 @@ impl LeanHoldings {
         ensures err { OnErr result (self.new.records ≡ self.old.records) }
         ensures err_by_two { OnErr result (self.new.by_two ≡ self.old.by_two) }
         ensures err_named { OnErr result ((x : TheId) → pages_naming self.new.names x ≡ pages_naming self.old.names x) }
+        ensures counted { (x : TheId) → has entity_cmp x (counted_by self.new.names) ≡ true →
+            has entity_cmp x (counted_with (counted_by self.old.names) wanted.id
+            (meaning wanted.version wanted.id wanted.rev page.now)) ≡ true }
         ensures full { result ≡ Err Full →
             self.old.limit < needs self.old wanted.version wanted.id (Some (record { revision = wanted.rev; content = page.now })) }
         ensures within { OnOk result (needs self.old wanted.version wanted.id (Some (record { revision = wanted.rev; content = page.now }))
@@ -89,6 +94,9 @@ impl LeanHoldings {
         ensures err { OnErr result (self.new.records ≡ self.old.records) }
         ensures err_by_two { OnErr result (self.new.by_two ≡ self.old.by_two) }
         ensures err_named { OnErr result ((x : TheId) → pages_naming self.new.names x ≡ pages_naming self.old.names x) }
+        ensures counted { (x : TheId) → has entity_cmp x (counted_by self.new.names) ≡ true →
+            has entity_cmp x (counted_with (counted_by self.old.names) wanted.id
+            (meaning wanted.version wanted.id wanted.rev page.now)) ≡ true }
         ensures full { result ≡ Err Full →
             self.old.limit < needs self.old wanted.version wanted.id (Some (record { revision = wanted.rev; content = page.now })) }
         ensures within { OnOk result (needs self.old wanted.version wanted.id (Some (record { revision = wanted.rev; content = page.now }))
@@ -97,15 +105,20 @@ impl LeanHoldings {
         match self.make_ready(wanted.id, come.names.as_slice(), buffer) {
             Ok(gone) => {
                 let held = self.put_page(wanted, after, page, &gone, come);
+                self.count_out_rest(held.is_ok(), &gone, come, buffer);
                 drop(gone);
                 held
             }
-            Err(fault) => Err(fault),
+            Err(fault) => {
+                let _ = self.count_out_all(come.names.as_slice(), buffer);
+                Err(fault)
+            }
         }
     }
 
-    /// Sets the record of an entity, which holds nothing from now on, and tells the change of the triples that the held pages mean; its
-    /// page is unpacked into a buffer. After `OutOfMemory` nothing has changed.
+    /// Sets the record of an entity, which holds nothing from now on, and tells the change of the triples that the held pages mean. Those
+    /// that its page named, and that none names now, are counted no longer, as far as there is memory for it. Pages are unpacked into a
+    /// buffer. After `OutOfMemory` nothing has changed.
     pub fn release(
         &mut self,
         id: EntityId,
@@ -120,37 +133,20 @@ impl LeanHoldings {
         ensures by_two { OnOk result (self.new.by_two ≡ with_version One id self.old.by_two) }
         ensures change { IfOk result (IsChangeOf (held_triples self.old) (held_triples self.new)) }
         ensures limit { self.new.limit ≡ self.old.limit }
+        ensures fewer { (x : TheId) → has entity_cmp x (counted_by self.new.names) ≡ true →
+            has entity_cmp x (counted_by self.old.names) ≡ true }
         ensures err { OnErr result (self.new ≡ self.old) }
     {
         let version = version_in(&self.holders, id);
         let gone = self.held_parts(id, version, buffer)?;
         let come = no_parts(self.alloc, id);
         let released = self.put_nothing(id, after, &gone, &come);
+        if released.is_ok() {
+            let _ = self.count_out_all(gone.names.as_slice(), buffer);
+        }
         drop(gone);
         drop(come);
         released
-    }
-
-    // The parts of what an entity holds, mapped by a version. The page is unpacked into a buffer.
-    pub(crate) fn held_parts(
-        &self,
-        id: EntityId,
-        version: MappingVersion,
-        buffer: &mut Unpacker,
-    ) -> Result<NamedParts, OutOfMemory>
-        ensures { (counted : List TheId) → has entity_cmp id counted ≡ has entity_cmp id (counted_by self.now.names) →
-            IfOk result (ArePartsOf counted (meaning version) id (record_of self.now.records id).held) }
-    {
-        let Some(rev) = self.held(id, buffer)? else {
-            return Ok(no_parts(self.alloc, id));
-        };
-        let is_counted = self.names.is_counted(id);
-        named_parts(
-            self.alloc,
-            Wanted { id, rev, version },
-            buffer.text(),
-            is_counted,
-        )
     }
 
     // Counts these entities, and gives the parts of what an entity holds; pages are unpacked into a buffer. After a fault some of these
@@ -166,6 +162,8 @@ impl LeanHoldings {
         ensures limit { self.new.limit ≡ self.old.limit }
         ensures counted { OnOk result ((x : TheId) → has entity_cmp x (counted_by self.new.names)
             ≡ (has entity_cmp x come.now || has entity_cmp x (counted_by self.old.names))) }
+        ensures among { (x : TheId) → has entity_cmp x (counted_by self.new.names) ≡ true →
+            (has entity_cmp x come.now || has entity_cmp x (counted_by self.old.names)) ≡ true }
         ensures named { (x : TheId) → pages_naming self.new.names x ≡ pages_naming self.old.names x }
         ensures gone { IfOk result (ArePartsOf (counted_by self.new.names) (meaning_by meaning self.new.by_two) id
             (record_of self.new.records id).held) }
@@ -203,6 +201,7 @@ impl LeanHoldings {
         })) }
         ensures by_two { OnOk result (self.new.by_two ≡ with_version wanted.version wanted.id self.old.by_two) }
         ensures change { IfOk result (IsChangeOf (held_triples self.old) (held_triples self.new)) }
+        ensures counted { OnOk result (counted_by self.new.names ≡ counted_by self.old.names) }
         ensures limit { self.new.limit ≡ self.old.limit }
         ensures err { OnErr result (self.new ≡ self.old) }
         ensures full { result ≡ Err Full → self.old.limit
@@ -264,6 +263,7 @@ impl LeanHoldings {
         })) }
         ensures by_two { OnOk result (self.new.by_two ≡ with_version One id self.old.by_two) }
         ensures change { IfOk result (IsChangeOf (held_triples self.old) (held_triples self.new)) }
+        ensures counted { OnOk result (counted_by self.new.names ≡ counted_by self.old.names) }
         ensures limit { self.new.limit ≡ self.old.limit }
         ensures err { OnErr result (self.new ≡ self.old) }
     {

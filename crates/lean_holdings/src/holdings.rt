@@ -1,6 +1,6 @@
 // What the entities hold, with the triples that two pages may share.
 
-ghost use Rattle.std.specs.Prelude.{◌≡◌, ◌<◌, ◌≤◌, ◌||◌, ◌++◌, [], false, None, Some, Err, IfOk, MatchOption, OnErr, OnOk};
+ghost use Rattle.std.specs.Prelude.{◌≡◌, ◌<◌, ◌≤◌, ◌||◌, ◌++◌, [], false, true, None, Some, Err, IfOk, MatchOption, OnErr, OnOk};
 ghost use Rattle.std.specs.FinMap as map;
 ghost use Rattle.std.specs.List.{AllByRecursion};
 ghost use Rattle.sorted_sets.specs.Rising.{has, sorted};
@@ -12,16 +12,17 @@ ghost use Rattle.fetched_pages.specs.Meaning.{meaning};
 ghost use Rattle.shared_triples.specs.Lean.{stored_of, triples_of};
 ghost use Rattle.entity_model.specs.{EntityId.entity_cmp, declared.id.EntityId.EntityId as TheId};
 ghost use Rattle.entity_counts.specs.Naming.{counted_in, pages_naming};
-ghost use Rattle.lean_holdings.specs.{Holding.counted_by, InStep.AreHolders, InStep.HasRoom, InStep.room_with};
+ghost use Rattle.holders.specs.{Holding.AreHolders, Roomed.HasRoom, Roomed.room_with};
+ghost use Rattle.lean_holdings.specs.Holding.{counted_by};
 
 use crate::counting::{count_page, meant_texts};
-use crate::holders::Holders;
 use crate::kept::LeanPage;
 use crate::records::{keep_record, make_room, read_held, standing_in, version_in};
 use entity_counts::EntityCounts;
 use entity_model::EntityId;
 use entity_state::{Standing, Table};
 use fetched_pages::Wanted;
+use holders::{Holders, discard_store};
 use page_packing::{PackedPages, Unpacker, dictionary};
 use rdf_term::{List, OutOfMemory};
 use std::alloc::Global;
@@ -74,7 +75,7 @@ impl LeanHoldings {
         };
         let Ok(pages) = PackedPages::new(alloc, dictionary()) else {
             drop(table);
-            drop(store);
+            discard_store(store);
             return Err(OutOfMemory);
         };
         Ok(LeanHoldings {
@@ -187,6 +188,8 @@ impl LeanHoldings {
         ensures limit { self.new.limit ≡ self.old.limit }
         ensures counted { OnOk result ((x : TheId) → has entity_cmp x (counted_by self.new.names)
             ≡ (has entity_cmp x ids.now || has entity_cmp x (counted_by self.old.names))) }
+        ensures among { (x : TheId) → has entity_cmp x (counted_by self.new.names) ≡ true →
+            (has entity_cmp x ids.now || has entity_cmp x (counted_by self.old.names)) ≡ true }
         ensures named { (x : TheId) → pages_naming self.new.names x ≡ pages_naming self.old.names x }
         ensures full { result ≡ Err Full → self.old.limit
             < room_with (stored_of (ids.now ++ counted_by self.old.names) (meaning_by meaning self.old.by_two)) self.old.records [] }
@@ -209,4 +212,21 @@ impl LeanHoldings {
         let version = version_in(&self.holders, id);
         meant_texts(self.alloc, Wanted { id, rev, version }, buffer.text())
     }
+}
+
+/// Gives back the memory of holdings. So the drop of all that they own is proved here, and not in each crate that has them.
+pub fn discard(holdings: LeanHoldings) {
+    let LeanHoldings {
+        alloc: _,
+        store,
+        pages,
+        table,
+        names,
+        holders,
+    } = holdings;
+    discard_store(store);
+    drop(pages);
+    drop(table);
+    drop(names);
+    drop(holders);
 }

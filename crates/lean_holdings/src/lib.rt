@@ -4,12 +4,11 @@
 //! `records` how it is read and put. `storing` stores all of a page whose entity is to be counted, and `counting` counts the entity with
 //! it; `names` moves the names of entities from a page to the one in its place. `parts` parts the triples of a page, and `moving` puts its
 //! parts in the place of others. With these `holding` puts and takes pages, `remapping` maps one by another version, and `restoring` puts
-//! back what was saved; `holders` names the entities that hold by each version. `laws` says that all of it stays in step where an entity is
-//! counted in, and where a record is put in.
+//! back what was saved; with `uncounting` each counts out again those that no page names any longer. `laws` says that all of it stays in
+//! step where an entity is counted in or out, and where a record is put in.
 #![tactic(auto)]
 
 mod counting;
-mod holders;
 mod holding;
 mod holdings;
 mod kept;
@@ -21,8 +20,9 @@ mod records;
 mod remapping;
 mod restoring;
 mod storing;
+mod uncounting;
 
-pub use holdings::LeanHoldings;
+pub use holdings::{LeanHoldings, discard};
 pub use kept::LeanPage;
 pub use laws::holdings_stay_in_step;
 pub use restoring::RestoreFault;

@@ -7,10 +7,10 @@ ghost use Rattle.text_region.specs.Region.{bytes_of};
 ghost use Rattle.replay_model.specs.Versions.{version_at};
 ghost use Rattle.lean_holdings.specs.{Freeing.FreesPiece, Kept.held_with, Kept.kept_of, Kept.piece_at};
 
-use crate::holders::Holders;
 use crate::kept::{LeanPage, held_of};
 use entity_model::{EntityId, MappingVersion};
 use entity_state::{Held, Record, Standing, Table};
+use holders::Holders;
 use page_packing::{PackedPages, Unpacker};
 use rdf_term::OutOfMemory;
 

@@ -2,30 +2,34 @@
 
 ghost use Rattle.std.specs.Prelude.{◌≡◌, ◌<◌, ◌≤◌, true, Err, IfOk, IfSome, OnErr, OnOk, length};
 ghost use Rattle.term_pool.specs.declared.fault.PoolFault.TheVariants.{Full};
-ghost use Rattle.entity_model.specs.declared.id.EntityId.{EntityId as TheId};
-ghost use Rattle.replay_model.specs.{Records.record_of, Versions.all_by, Versions.is_holder, Versions.meaning_by, Versions.with_version};
+ghost use Rattle.sorted_sets.specs.Rising.{has};
+ghost use Rattle.entity_model.specs.{EntityId.entity_cmp, declared.id.EntityId.EntityId as TheId};
+ghost use Rattle.replay_model.specs.{Records.record_of, Union.triples_held};
+ghost use Rattle.replay_model.specs.Versions.{all_by, is_holder, meaning_by, with_version};
 ghost use Rattle.fetched_pages.specs.Meaning.{meaning};
 ghost use Rattle.shared_triples.specs.Lean.{AreCounted, stored_of};
 ghost use Rattle.entity_counts.specs.Naming.{pages_naming};
-ghost use Rattle.lean_holdings.specs.{Changing.IsChangeOf, Changing.held_triples, Changing.needs};
-ghost use Rattle.lean_holdings.specs.{Holding.counted_by, InStep.room_with, Moving.ArePartsOf};
-ghost use Rattle.lean_holdings.specs.Stale.{first_of, stale_by, version_in};
+ghost use Rattle.lean_holdings.specs.{Changing.IsChangeOf, Changing.counted_with, Changing.held_triples, Changing.needs};
+ghost use Rattle.holders.specs.Roomed.{room_with};
+ghost use Rattle.lean_holdings.specs.{Holding.counted_by, Moving.ArePartsOf};
+ghost use Rattle.holders.specs.Holding.{first_of, stale_by, version_in};
 
-use crate::holders::other;
 use crate::holdings::LeanHoldings;
 use crate::kept::keys_of;
 use crate::moving::{Moving, move_parts};
 use crate::parts::NamedParts;
 use crate::storing::set_keys;
 use entity_model::{EntityId, MappingVersion};
+use holders::other;
 use page_packing::Unpacker;
 use parts_exchange::{PartsChange, PartsExchange};
 use triple_store::StoreFault;
 
 impl LeanHoldings {
     /// Maps what an entity holds by a version, and tells the change of the triples that the held pages mean. All entities that the page
-    /// names are counted then; pages are unpacked into a buffer. After a fault some of these may be counted, and everything else is as it
-    /// was. The fault is `Full` if the triples that are to be stored have, with the stored ones, more distinct terms than the limit.
+    /// names are counted then. Those that it named before, and that none names now, are counted no longer, as far as there is memory for
+    /// it. Pages are unpacked into a buffer. After a fault some that the page names may be counted, and everything else is as it was. The
+    /// fault is `Full` if the triples that are to be stored have, with the stored ones, more distinct terms than the limit.
     pub fn remap(
         &mut self,
         id: EntityId,
@@ -39,6 +43,9 @@ impl LeanHoldings {
         ensures limit { self.new.limit ≡ self.old.limit }
         ensures err_by_two { OnErr result (self.new.by_two ≡ self.old.by_two) }
         ensures err_named { OnErr result ((x : TheId) → pages_naming self.new.names x ≡ pages_naming self.old.names x) }
+        ensures counted { (x : TheId) → has entity_cmp x (counted_by self.new.names) ≡ true →
+            has entity_cmp x (counted_with (counted_by self.old.names) id
+            (triples_held (meaning version) id (record_of self.old.records id).held)) ≡ true }
         ensures full { result ≡ Err Full → self.old.limit < needs self.old version id (record_of self.old.records id).held }
         ensures within { OnOk result (needs self.old version id (record_of self.old.records id).held ≤ self.old.limit) }
     {
@@ -48,11 +55,13 @@ impl LeanHoldings {
         match self.make_ready(id, come.names.as_slice(), buffer) {
             Ok(gone) => {
                 let mapped = self.put_again(id, version, &gone, &come);
+                self.count_out_rest(mapped.is_ok(), &gone, &come, buffer);
                 drop(gone);
                 drop(come);
                 mapped
             }
             Err(fault) => {
+                let _ = self.count_out_all(come.names.as_slice(), buffer);
                 drop(come);
                 Err(fault)
             }
@@ -76,6 +85,7 @@ impl LeanHoldings {
         ensures records { self.new.records ≡ self.old.records }
         ensures by_two { OnOk result (self.new.by_two ≡ with_version version id self.old.by_two) }
         ensures change { IfOk result (IsChangeOf (held_triples self.old) (held_triples self.new)) }
+        ensures counted { OnOk result (counted_by self.new.names ≡ counted_by self.old.names) }
         ensures limit { self.new.limit ≡ self.old.limit }
         ensures err { OnErr result (self.new ≡ self.old) }
         ensures full { result ≡ Err Full → self.old.limit

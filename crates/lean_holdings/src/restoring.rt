@@ -2,12 +2,14 @@
 
 ghost use Rattle.std.specs.Prelude.{◌≡◌, ◌≢◌, ◌⊎◌, ◌<◌, ◌≤◌, false, true, None, Some, IsErrOf, OnErr, OnOk, is_some};
 ghost use Rattle.std.specs.FinMap as map;
-ghost use Rattle.entity_model.specs.declared.id.EntityId.{EntityId as TheId};
+ghost use Rattle.sorted_sets.specs.Rising.{has};
+ghost use Rattle.entity_model.specs.{EntityId.entity_cmp, declared.id.EntityId.EntityId as TheId};
 ghost use Rattle.entity_model.specs.declared.mapping.MappingVersion.TheVariants.{One};
 ghost use Rattle.entity_json.specs.Document.{unfit_of};
-ghost use Rattle.replay_model.specs.{Replies.HoldsDocument, Versions.is_holder, Versions.with_version};
+ghost use Rattle.replay_model.specs.{Replies.HoldsDocument, Union.triples_held, Versions.is_holder, Versions.with_version};
+ghost use Rattle.fetched_pages.specs.Meaning.{meaning};
 ghost use Rattle.entity_counts.specs.Naming.{pages_naming};
-ghost use Rattle.lean_holdings.specs.{Changing.needs, Stale.by_two_with};
+ghost use Rattle.lean_holdings.specs.{Changing.by_two_with, Changing.counted_with, Changing.needs, Holding.counted_by};
 ghost use Rattle.lean_holdings.specs.declared.restoring.RestoreFault.TheVariants.{Full, OutOfMemory as RestoreOutOfMemory, Unsound};
 
 use crate::holdings::LeanHoldings;
@@ -56,6 +58,9 @@ impl LeanHoldings {
         ensures err { OnErr result (self.new.records ≡ self.old.records) }
         ensures err_by_two { OnErr result (self.new.by_two ≡ self.old.by_two) }
         ensures err_named { OnErr result ((x : TheId) → pages_naming self.new.names x ≡ pages_naming self.old.names x) }
+        ensures counted { (x : TheId) → has entity_cmp x (counted_by self.new.names) ≡ true →
+            has entity_cmp x (counted_with (counted_by self.old.names) id
+            (triples_held (meaning version) id entity.now.held)) ≡ true }
     {
         let after = Standing {
             state: entity.state,
@@ -92,6 +97,8 @@ impl LeanHoldings {
         })) }
         ensures by_two { OnOk result (self.new.by_two ≡ with_version One id self.old.by_two) }
         ensures limit { self.new.limit ≡ self.old.limit }
+        ensures fewer { (x : TheId) → has entity_cmp x (counted_by self.new.names) ≡ true →
+            has entity_cmp x (counted_by self.old.names) ≡ true }
         ensures err { OnErr result (self.new ≡ self.old) }
         ensures refused { OnErr result ((map.contains_key self.old.records id ≡ false) ⊎ (is_holder self.old.records id ≡ true)) }
     {
@@ -128,6 +135,9 @@ impl LeanHoldings {
         ensures err { OnErr result (self.new.records ≡ self.old.records) }
         ensures err_by_two { OnErr result (self.new.by_two ≡ self.old.by_two) }
         ensures err_named { OnErr result ((x : TheId) → pages_naming self.new.names x ≡ pages_naming self.old.names x) }
+        ensures counted { (x : TheId) → has entity_cmp x (counted_by self.new.names) ≡ true →
+            has entity_cmp x (counted_with (counted_by self.old.names) wanted.id
+            (meaning wanted.version wanted.id wanted.rev page.now)) ≡ true }
     {
         let is_counted = self.names.is_counted(wanted.id);
         match document_parts(self.alloc, wanted, page, is_counted) {

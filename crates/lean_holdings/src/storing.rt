@@ -10,9 +10,9 @@ ghost use Rattle.triple_catalog.specs.Room.{room_for};
 ghost use Rattle.triple_store.specs.StoreState.{IsSound, counts_in, limit_of};
 ghost use Rattle.triple_store.specs.Updates.{AreStored, KeepsRest, MayCome};
 ghost use Rattle.replay_model.specs.Union.{Meaning};
-ghost use Rattle.shared_triples.specs.Lean.{triples_of};
-ghost use Rattle.entity_counts.specs.Naming.{Naming, counted_in};
-ghost use Rattle.lean_holdings.specs.{Holding.IsKept, Kept.kept_of, Kept.keys_held, Kept.seen, Kept.with_keys};
+ghost use Rattle.shared_triples.specs.Lean.{stored_of, triples_of};
+ghost use Rattle.entity_counts.specs.Naming.{Naming, counted_in, is_counted, pages_naming};
+ghost use Rattle.lean_holdings.specs.{Holding.IsKept, Holding.counted_by, Kept.kept_of, Kept.keys_held, Kept.seen, Kept.with_keys};
 
 use crate::kept::{LeanPage, keys_of};
 use entity_model::EntityId;
@@ -37,6 +37,11 @@ pub fn store_whole(
         IsKept m store.old pages names table.old.records →
         ((t : Triple) → has triple_cmp t page.now ≡ has triple_cmp t (triples_of m (seen pages table.old.records) id)) →
         IsKept m store.new pages (counted_in names id) table.new.records) }
+    ensures uncounted { OnOk result ((m : Meaning Triple) (pages : Texts) (names : Naming) →
+        IsKept m store.old pages names table.old.records → is_counted names id ≡ true → pages_naming names id ≡ 0 →
+        ((t : Triple) → has triple_cmp t page.now
+        ≡ has triple_cmp t (triples_of (stored_of (counted_by (map.remove names id)) m) (seen pages table.old.records) id)) →
+        IsKept m store.new pages (map.remove names id) table.new.records) }
     ensures seen { (pages : Texts) → seen pages table.new.records ≡ seen pages table.old.records }
     ensures err { OnErr result (counts_in store.new ≡ counts_in store.old) }
     ensures err_table { OnErr result (table.new ≡ table.old) }

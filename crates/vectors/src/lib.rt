@@ -9,6 +9,7 @@ mod dumps;
 mod folders;
 mod horizons;
 mod indexes;
+mod lean;
 mod matches;
 mod munged;
 mod names;
@@ -65,6 +66,7 @@ fn try_values(tester: &mut Tester<'_>, keys: RandomState) {
     matches::try_matches(tester, keys);
     patches::try_patches(tester);
     regions::try_regions(tester);
+    lean::try_lean(tester, keys);
 }
 
 // Makes the tests of pages, of what is kept of them, and of where lines and pages come from.

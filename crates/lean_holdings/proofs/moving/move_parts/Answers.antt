@@ -1,5 +1,5 @@
 -- The parts came, and the names moved.
-use Rattle.std.proofs.Common.{◌≡◌, ◌+◌, sym, ap, ◌∙◌}
+use Rattle.std.proofs.Common.{◌+◌, sym, ap, ◌∙◌}
 use Rattle.sorted_sets.specs.{Counting.one_if, Rising.has}
 use Rattle.entity_model.specs.EntityId.{entity_cmp}
 use Rattle.entity_counts.specs.Naming.{pages_naming}

@@ -1,5 +1,5 @@
 -- The parts are those that are told, and the names are in order.
-use Rattle.std.proofs.Common.{◌≡◌, sym, ap, subst, ◌∙◌}
+use Rattle.std.proofs.Common.{sym, ap, subst, ◌∙◌}
 use Rattle.sorted_sets.specs.Rising.{IsRising, has}
 use Rattle.sorted_sets.proofs.Rising.{IsRising-sorted, has-sorted}
 use Rattle.entity_model.specs.EntityId.{entity_cmp, entity_cmp_total}

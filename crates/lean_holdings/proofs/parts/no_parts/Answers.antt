@@ -1,5 +1,5 @@
 -- Nothing has no parts.
-use Rattle.std.proofs.Common.{refl, sym, ap, subst}
+use Rattle.std.proofs.Common.{sym, ap, subst}
 use Rattle.std.specs.List.{AllByRecursion}
 use Rattle.sorted_sets.specs.Rising.{IsRising, has, sorted}
 use Rattle.rdf_term.specs.{Fit.HasFitAndShortTerms, Order.triple_cmp}

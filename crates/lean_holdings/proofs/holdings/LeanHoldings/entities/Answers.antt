@@ -3,7 +3,7 @@ use Rattle.std.proofs.Common.{◌≡◌, List, IfOk, subst, sym}
 use Rattle.entity_model.specs.declared.id.EntityId.{EntityId}
 use Rattle.text_region.specs.Region.{bytes_of}
 use Rattle.lean_holdings.specs.Kept.{record_with}
-use Rattle.lean_holdings.proofs.Values.{values_keys}
+use Rattle.holders.proofs.Values.{values_keys}
 use Rattle.lean_holdings.proofs.holdings.LeanHoldings.entities.Goals as goal
 
 pub returns : goal.returns

@@ -1,8 +1,9 @@
 -- Store and records say so.
 use Rattle.replay_model.specs.Versions.{meaning_by}
 use Rattle.fetched_pages.specs.Meaning.{meaning}
-use Rattle.lean_holdings.specs.{Holding.counted_by, Kept.seen}
-use Rattle.lean_holdings.proofs.{ByVersion.by_two_holds, InStep.links, Rooming.room_held}
+use Rattle.lean_holdings.specs.{Holding.counted_by, Kept.holds_in, Kept.seen}
+use Rattle.holders.proofs.ByVersion.{by_two_holds}
+use Rattle.lean_holdings.proofs.{InStep.links, Rooming.room_held}
 use Rattle.lean_holdings.proofs.holdings.LeanHoldings.facts.Goals as goal
 
 pub returns-clause-room : goal.returns-clause-room
@@ -13,4 +14,4 @@ returns-clause-room c =
 pub returns-clause-holders : goal.returns-clause-holders
 returns-clause-holders c =
     let a = c.self.inside in
-    rw (← c.self.view_is) (by_two_holds a.holders a.table.records (seen a.pages a.table.records) c.self.invariant.by (links a.pages a.table.records))
+    rw (← c.self.view_is) (by_two_holds a.holders (holds_in a.table.records) (seen a.pages a.table.records) c.self.invariant.by (links a.pages a.table.records))

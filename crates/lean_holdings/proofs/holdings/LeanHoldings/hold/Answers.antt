@@ -1,5 +1,5 @@
 -- The parts are those that the page has where its entity is counted as it is.
-use Rattle.std.proofs.Common.{◌≡◌, sym, ◌∙◌}
+use Rattle.std.proofs.Common.{sym, ◌∙◌}
 use Rattle.std.specs.FinMap as map
 use Rattle.lean_holdings.proofs.holdings.LeanHoldings.hold.Goals as goal
 

@@ -1,5 +1,5 @@
 -- The page that comes is put where all that it names are counted.
-use Rattle.std.proofs.Common.{◌≡◌, ◌<◌, ◌||◌, false, true, Some, Err, refl, sym, ap, subst, ◌∙◌}
+use Rattle.std.proofs.Common.{◌≡◌, ◌||◌, Some, Err, refl, sym, ap, ◌∙◌}
 use Rattle.sorted_sets.specs.Rising.{has}
 use Rattle.term_pool.specs.declared.fault.PoolFault.TheVariants.{Full}
 use Rattle.entity_model.specs.{declared.id.EntityId.EntityId, EntityId.entity_cmp}
@@ -8,8 +8,9 @@ use Rattle.replay_model.specs.Versions.{meaning_by}
 use Rattle.shared_triples.specs.Lean.{stored_of}
 use Rattle.slot_keys.proofs.Lists.{or_left}
 use Rattle.fetched_pages.specs.Meaning.{meaning}
-use Rattle.lean_holdings.specs.{Changing.needs, Holding.counted_by, InStep.LeanState, InStep.room_with, Moving.ArePartsOf}
-use Rattle.lean_holdings.proofs.{Needing.put_needs, Needing.ready_needs, Results.on_err, Strange.not_itself}
+use Rattle.holders.specs.Roomed.{room_with}
+use Rattle.lean_holdings.specs.{Changing.needs, Holding.counted_by, InStep.LeanState}
+use Rattle.lean_holdings.proofs.{CountedOut.among_with, Needing.put_needs, Needing.ready_needs, Results.either_way, Results.on_err, Strange.not_itself}
 use Rattle.lean_holdings.proofs.holdings.LeanHoldings.hold_parts.Goals.{After-drop}
 use Rattle.lean_holdings.proofs.holdings.LeanHoldings.hold_parts.Goals as goal
 
@@ -24,25 +25,25 @@ pub put_page-held-requires-clause-known : goal.put_page-held-requires-clause-kno
 put_page-held-requires-clause-known c y there = c.in-Ok.ensures.counted y ∙ or_left (has entity_cmp y c.as_slice.result.now) _ (ap (has entity_cmp y) c.as_slice.ensures.value ∙ there)
 
 pub returns-in-Ok-clause-records : goal.returns-in-Ok-clause-records
-returns-in-Ok-clause-records c = rw c.make_ready.ensures.records at c.put_page-held.ensures.records
+returns-in-Ok-clause-records c = rw c.count_out_rest.ensures.records (rw c.make_ready.ensures.records at c.put_page-held.ensures.records)
 
 pub returns-in-Ok-clause-by_two : goal.returns-in-Ok-clause-by_two
-returns-in-Ok-clause-by_two c = rw c.make_ready.ensures.by_two at c.put_page-held.ensures.by_two
+returns-in-Ok-clause-by_two c = rw c.count_out_rest.ensures.by_two (rw c.make_ready.ensures.by_two at c.put_page-held.ensures.by_two)
 
 pub returns-in-Ok-clause-change : goal.returns-in-Ok-clause-change
-returns-in-Ok-clause-change c = rw (c.make_ready.ensures.by_two, c.make_ready.ensures.records) at c.put_page-held.ensures.change
+returns-in-Ok-clause-change c = rw (c.count_out_rest.ensures.by_two, c.count_out_rest.ensures.records) (rw (c.make_ready.ensures.by_two, c.make_ready.ensures.records) at c.put_page-held.ensures.change)
 
 pub returns-in-Ok-clause-limit : goal.returns-in-Ok-clause-limit
-returns-in-Ok-clause-limit c = c.put_page-held.ensures.limit ∙ c.make_ready.ensures.limit
+returns-in-Ok-clause-limit c = c.count_out_rest.ensures.limit ∙ c.put_page-held.ensures.limit ∙ c.make_ready.ensures.limit
 
 pub returns-in-Ok-clause-err : goal.returns-in-Ok-clause-err
-returns-in-Ok-clause-err c = on_err (λ same. ap (λ (h : LeanState). h.records) same ∙ c.make_ready.ensures.records) c.put_page-held.result c.put_page-held.ensures.err
+returns-in-Ok-clause-err c = on_err (λ same. c.count_out_rest.ensures.records ∙ ap (λ (h : LeanState). h.records) same ∙ c.make_ready.ensures.records) c.put_page-held.result c.put_page-held.ensures.err
 
 pub returns-in-Ok-clause-err_by_two : goal.returns-in-Ok-clause-err_by_two
-returns-in-Ok-clause-err_by_two c = on_err (λ same. ap (λ (h : LeanState). h.by_two) same ∙ c.make_ready.ensures.by_two) c.put_page-held.result c.put_page-held.ensures.err
+returns-in-Ok-clause-err_by_two c = on_err (λ same. c.count_out_rest.ensures.by_two ∙ ap (λ (h : LeanState). h.by_two) same ∙ c.make_ready.ensures.by_two) c.put_page-held.result c.put_page-held.ensures.err
 
 pub returns-in-Ok-clause-err_named : goal.returns-in-Ok-clause-err_named
-returns-in-Ok-clause-err_named c = on_err (λ same x. ap (λ (h : LeanState). pages_naming h.names x) same ∙ c.make_ready.ensures.named x) c.put_page-held.result c.put_page-held.ensures.err
+returns-in-Ok-clause-err_named c = on_err (λ same x. c.count_out_rest.ensures.named x ∙ ap (λ (h : LeanState). pages_naming h.names x) same ∙ c.make_ready.ensures.named x) c.put_page-held.result c.put_page-held.ensures.err
 
 -- the entities that are counted then
 counted : (c : After-drop) (y : EntityId) → has entity_cmp y (counted_by c.make_ready.new.self.names) ≡ (has entity_cmp y c.args.come.now.names.items || has entity_cmp y (counted_by c.args.self.now.names))
@@ -69,3 +70,17 @@ returns-in-Err-clause-full c is =
     let same : c.in-Err.fault ≡ Full = cc in
     ready_needs c.args.self.now c.args.wanted.version c.args.wanted.id (Some (record { revision = c.args.wanted.rev; content = c.args.page.now })) c.args.come.now.names.items
     (c.requires.come (counted_by c.args.self.now.names) refl).names c.args.self.now.limit (rw c.as_slice.ensures.value at c.in-Err.ensures.full (ap (λ fault. Err fault) same))
+
+pub returns-in-Ok-clause-counted : goal.returns-in-Ok-clause-counted
+returns-in-Ok-clause-counted c x there =
+    let same : counted_by c.put_page-held.new.self.names ≡ counted_by c.make_ready.new.self.names =
+    either_way c.put_page-held.result c.put_page-held.ensures.counted (on_err (λ same. ap (λ (h : LeanState). counted_by h.names) same) c.put_page-held.result c.put_page-held.ensures.err) in
+    among_with (counted_by c.args.self.now.names) c.args.come.now.names.items c.args.wanted.id x
+    (meaning c.args.wanted.version c.args.wanted.id c.args.wanted.rev c.args.page.now) (c.requires.come (counted_by c.args.self.now.names) refl).names
+    (rw c.as_slice.ensures.value at c.make_ready.ensures.among x (ap (has entity_cmp x) (sym same) ∙ c.count_out_rest.ensures.fewer x there))
+
+pub returns-in-Err-clause-counted : goal.returns-in-Err-clause-counted
+returns-in-Err-clause-counted c x there =
+    among_with (counted_by c.args.self.now.names) c.args.come.now.names.items c.args.wanted.id x
+    (meaning c.args.wanted.version c.args.wanted.id c.args.wanted.rev c.args.page.now) (c.requires.come (counted_by c.args.self.now.names) refl).names
+    (rw c.as_slice.ensures.value at c.make_ready.ensures.among x (c.count_out_all.ensures.fewer x there))

@@ -1,5 +1,5 @@
 -- The parts are those of the version that the page is mapped by.
-use Rattle.std.proofs.Common.{◌≡◌, refl, sym, ◌∙◌, ap}
+use Rattle.std.proofs.Common.{◌≡◌, refl, sym}
 use Rattle.replay_model.specs.Versions.{version_at}
 use Rattle.lean_holdings.proofs.Stepping.{parts_by}
 use Rattle.lean_holdings.proofs.holdings.LeanHoldings.make_ready.Goals as goal

@@ -6,8 +6,9 @@ use Rattle.triple_catalog.specs.Room.{room_for}
 use Rattle.triple_store.specs.StoreState.{counts_in, limit_of}
 use Rattle.replay_model.specs.{Records.record_of, Versions.meaning_by, Versions.with_version}
 use Rattle.fetched_pages.specs.Meaning.{meaning}
-use Rattle.lean_holdings.specs.{Holders.ByVersion, Holding.counted_by, InStep.AreInStep, Kept.kept_of, Kept.seen}
-use Rattle.lean_holdings.proofs.ByVersion.{moved_by_two, moved_to, moves, undone}
+use Rattle.holders.specs.Holders.{ByVersion}
+use Rattle.lean_holdings.specs.{Holding.counted_by, InStep.AreInStep, Kept.holds_in, Kept.kept_of, Kept.seen}
+use Rattle.holders.proofs.ByVersion.{moved_by_two, moved_to, moves, undone}
 use Rattle.lean_holdings.proofs.{CountedIn.are_stored, CountedIn.countable, InStep.links, Rooming.room_more, Staying.keys_unseen, Staying.put_same}
 use Rattle.lean_holdings.proofs.Stepping.{again_step, may_move, tells_step, undone_step}
 use Rattle.lean_holdings.proofs.holdings.LeanHoldings.put_again.Goals.{After-remove, After-take_back}
@@ -34,7 +35,7 @@ was_seen c = ap (seen c.self.inside.pages) c.set_keys.ensures ∙ keys_unseen c.
 
 -- what was taken back
 back : (c : After-take_back) → c.take_back.new.self ≡ c.self.inside.holders
-back c = undone c.self.inside.holders c.add.new.self c.take_back.new.self c.self.inside.table.records c.args.id c.args.version c.in-Ok.added c.self.invariant.by
+back c = undone c.self.inside.holders c.add.new.self c.take_back.new.self (holds_in c.self.inside.table.records) c.args.id c.args.version c.in-Ok.added c.self.invariant.by
     c.in-Ok.ensures.ok c.in-Ok.ensures.added c.take_back.ensures
 
 refused : (c : After-take_back) → AreInStep c.move_parts.new.store c.self.inside.pages c.move_parts.new.names c.take_back.new.self c.self.inside.table.records

@@ -1,11 +1,12 @@
 -- What was held goes, or all is as it was.
-use Rattle.std.proofs.Common.{◌≡◌, ◌<◌, [], None, true≢false, refl, sym, ap, subst, ◌∙◌, arith}
+use Rattle.std.proofs.Common.{◌≡◌, ◌<◌, [], None, true≢false, refl, sym, ap, ◌∙◌, arith}
 use Rattle.std.specs.FinMap as map
 use Rattle.entity_model.specs.declared.mapping.MappingVersion.TheVariants.{Two}
-use Rattle.replay_model.specs.{Versions.meaning_by, Versions.with_version}
+use Rattle.replay_model.specs.{Versions.meaning_by}
 use Rattle.fetched_pages.specs.Meaning.{meaning}
-use Rattle.lean_holdings.specs.{Holders.ByVersion, Holders.without_holder, InStep.AreInStep, Kept.seen}
-use Rattle.lean_holdings.proofs.ByVersion.{moved_out}
+use Rattle.holders.specs.Holders.{ByVersion, without_holder}
+use Rattle.lean_holdings.specs.{InStep.AreInStep, Kept.seen}
+use Rattle.holders.proofs.ByVersion.{moved_out}
 use Rattle.lean_holdings.proofs.{CountedIn.are_stored, CountedIn.countable}
 use Rattle.lean_holdings.proofs.Stepping.{gone_step, gone_step_seen, gone_tells, may_move, undone_step}
 use Rattle.lean_holdings.proofs.holdings.LeanHoldings.put_nothing.Goals.{After-remove-in-Ok-move_parts}

@@ -1,14 +1,14 @@
 -- The page comes in the place of what was held, or all is as it was.
-use Rattle.std.proofs.Common.{◌≡◌, ◌<◌, ◌≤◌, Err, Some, refl, sym, ap, subst, ◌∙◌, arith}
+use Rattle.std.proofs.Common.{◌≡◌, ◌<◌, ◌≤◌, Err, Some, refl, ap, subst, ◌∙◌, arith}
 use Rattle.std.specs.FinMap as map
-use Rattle.sorted_sets.specs.Rising.{has}
 use Rattle.term_pool.specs.declared.fault.PoolFault.TheVariants.{Full}
 use Rattle.triple_catalog.specs.Room.{room_for}
 use Rattle.triple_store.specs.StoreState.{counts_in, limit_of}
-use Rattle.replay_model.specs.{Records.record_of, Union.Meaning, Versions.meaning_by, Versions.with_version}
+use Rattle.replay_model.specs.Versions.{meaning_by, with_version}
 use Rattle.fetched_pages.specs.Meaning.{meaning}
-use Rattle.lean_holdings.specs.{Holders.ByVersion, Holding.counted_by, InStep.AreInStep, Kept.seen, Moving.ArePartsOf, Moving.HasMoved, Moving.MayMove}
-use Rattle.lean_holdings.proofs.ByVersion.{moved_by_two, moved_to, moves, undone}
+use Rattle.holders.specs.Holders.{ByVersion}
+use Rattle.lean_holdings.specs.{Holding.counted_by, InStep.AreInStep, Kept.holds_in, Kept.seen}
+use Rattle.holders.proofs.ByVersion.{moved_by_two, moved_to, moves, undone}
 use Rattle.lean_holdings.proofs.{CountedIn.are_stored, CountedIn.countable, Rooming.room_more}
 use Rattle.lean_holdings.proofs.Stepping.{back_again, may_move, page_step, page_step_seen, seen_again, tells_step, undone_step}
 use Rattle.lean_holdings.proofs.holdings.LeanHoldings.put_page.Goals.{After-remove, After-take_back-in-Err}
@@ -45,7 +45,7 @@ was_seen c = rw (c.replace.ensures.records, c.make_room.ensures.records)
 
 -- what was taken back
 back : (c : After-take_back-in-Err) → c.take_back-in-Err.new.self ≡ c.self.inside.holders
-back c = undone c.self.inside.holders c.add.new.self c.take_back-in-Err.new.self c.self.inside.table.records c.args.wanted.id c.args.wanted.version c.in-Ok.added c.self.invariant.by
+back c = undone c.self.inside.holders c.add.new.self c.take_back-in-Err.new.self (holds_in c.self.inside.table.records) c.args.wanted.id c.args.wanted.version c.in-Ok.added c.self.invariant.by
     c.in-Ok.ensures.ok c.in-Ok.ensures.added c.take_back-in-Err.ensures
 
 refused : (c : After-take_back-in-Err) → AreInStep c.move_parts.new.store c.free.new.self c.move_parts.new.names c.take_back-in-Err.new.self c.make_room.new.table.records
@@ -82,7 +82,7 @@ invariant_of-self-in_default c = rw (c.in_default.ensures.err, c.make_room.ensur
 pub invariant_of-self-in_default-put : goal.invariant_of-self-in_default-put
 invariant_of-self-in_default-put c =
     let was : c.take_back.new.self ≡ c.self.inside.holders =
-    undone c.self.inside.holders c.add.new.self c.take_back.new.self c.self.inside.table.records c.args.wanted.id c.args.wanted.version c.in-Ok.added c.self.invariant.by
+    undone c.self.inside.holders c.add.new.self c.take_back.new.self (holds_in c.self.inside.table.records) c.args.wanted.id c.args.wanted.version c.in-Ok.added c.self.invariant.by
     c.in-Ok.ensures.ok c.in-Ok.ensures.added c.take_back.ensures in
     rw (was, c.in_default-put.ensures.err, c.make_room.ensures.records) c.self.invariant
 
@@ -95,7 +95,7 @@ invariant_of-self-in-Err c = refused c
 pub returns-in_default-put-clause-err : goal.returns-in_default-put-clause-err
 returns-in_default-put-clause-err c =
     let was : c.take_back.new.self ≡ c.self.inside.holders =
-    undone c.self.inside.holders c.add.new.self c.take_back.new.self c.self.inside.table.records c.args.wanted.id c.args.wanted.version c.in-Ok.added c.self.invariant.by
+    undone c.self.inside.holders c.add.new.self c.take_back.new.self (holds_in c.self.inside.table.records) c.args.wanted.id c.args.wanted.version c.in-Ok.added c.self.invariant.by
     c.in-Ok.ensures.ok c.in-Ok.ensures.added c.take_back.ensures in
     rw (← c.self.view_is, was, c.in_default-put.ensures.err, c.make_room.ensures.records) refl
 

@@ -5,8 +5,8 @@ use Rattle.sorted_sets.proofs.Bools.{or_false_right}
 use Rattle.entity_model.specs.EntityId.{entity_cmp}
 use Rattle.text_region.specs.Region.{bytes_of}
 use Rattle.replay_model.specs.Records.{record_of}
-use Rattle.lean_holdings.specs.Kept.{held_with, kept_of, seen}
-use Rattle.lean_holdings.proofs.{ByVersion.drop_none, InStep.links, Results.if_err, Results.if_ok, Seen.held_is}
+use Rattle.lean_holdings.specs.Kept.{held_with, kept_of}
+use Rattle.lean_holdings.proofs.{InStep.drop_none, InStep.links, Results.if_err, Results.if_ok, Seen.held_is}
 use Rattle.lean_holdings.proofs.holdings.LeanHoldings.restore_nothing.Goals as goal
 
 pub returns-then-is_none-clause-records : goal.returns-then-is_none-clause-records

@@ -1,5 +1,5 @@
 -- A page that is a document has few bytes.
-use Rattle.std.proofs.Common.{◌≡◌, sym, ◌∙◌}
+use Rattle.std.proofs.Common.{sym, ◌∙◌}
 use Rattle.std.specs.FinMap as map
 use Rattle.lean_holdings.proofs.Short.{document_short}
 use Rattle.lean_holdings.proofs.holdings.LeanHoldings.restore_page.Goals as goal
