@@ -1,6 +1,7 @@
 -- Lists of cells, and of what they stand for.
 use Rattle.std.proofs.Common.{◌≡◌, ◌∙◌, ℕ, suc, ◌+◌, ◌<◌, List, [], ◌∷◌, ◌++◌, map, length, take, drop, get_or, ap, sym, arith}
-use Rattle.std.specs.List.{insert, remove, take-map, drop-map}
+use Rattle.std.specs.List.{All, insert, remove, take-map, drop-map}
+use Rattle.std.proofs.lemmas.List.Elements.{All-append, All-cons, All-drop, All-take}
 use Rattle.std.proofs.lemmas.List.{get_or-map, length-map, map-append, take_more}
 
 module _ {C K : Type 0} (f : C → K) where
@@ -28,3 +29,10 @@ module _ {C K : Type 0} (f : C → K) where
       let inside : i < length keys = omega arith in
       let at : get_or keys i key ≡ key = ap (λ ks. get_or ks i key) (sym e) ∙ get_or-map f cells i cell key within ∙ ap f (sym is) ∙ sym stands in
       take_more keys i key inside ∙ ap (λ k. take i keys ++ k ∷ []) at
+
+-- what is true of each cell stays so
+pub all_insert : {C : Type 0} (P : C → Type 0) (cells : List C) (at : ℕ) (cell : C) → All P cells → P cell → All P (insert cells at cell)
+all_insert P cells at cell h p = All-append P (take at cells) (cell ∷ drop at cells) (All-take P at cells h) (All-cons P cell (drop at cells) p (All-drop P at cells h))
+
+pub all_remove : {C : Type 0} (P : C → Type 0) (cells : List C) (at : ℕ) → All P cells → All P (remove cells at)
+all_remove P cells at h = All-append P (take at cells) (drop (suc at) cells) (All-take P at cells h) (All-drop P (suc at) cells h)

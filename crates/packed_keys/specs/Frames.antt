@@ -1,5 +1,5 @@
 -- What a number of a frame stands for.
-use Rattle.std.specs.Prelude.{ℕ, ◌+◌, ◌/◌, ◌%◌, ◌^◌}
+use Rattle.std.specs.Prelude.{ℕ, ◌+◌, ◌/◌, ◌%◌, ◌^◌, ◌<◌}
 use Rattle.slot_keys.specs.declared.key.Key.{Key}
 use Rattle.packed_keys.specs.declared.frame.Frame.{Frame}
 
@@ -15,3 +15,10 @@ key_at frame number = record {
   second = slot_above frame.least.second (number / 2 ^ frame.third % 2 ^ frame.second);
   third = slot_above frame.least.third (number % 2 ^ frame.third);
 }
+
+-- each slot of the key with this number is what it is without its rest in 32 bits; such numbers are ordered as their keys are
+abbrev pub IsIn : Frame → ℕ → Type 0
+IsIn frame number =
+    (frame.least.first + number / 2 ^ frame.third / 2 ^ frame.second < 2 ^ 32)
+    × (frame.least.second + number / 2 ^ frame.third % 2 ^ frame.second < 2 ^ 32)
+    × (frame.least.third + number % 2 ^ frame.third < 2 ^ 32)

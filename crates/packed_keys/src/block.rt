@@ -1,15 +1,19 @@
 // A run of keys in memory of its own.
 
-ghost use Rattle.std.specs.Prelude.{◌≡◌, ◌<◌, ◌≤◌, [], ◌∷◌, ◌++◌, length, slice_index_or, IfOk, OnOk, OnErr};
+ghost use Rattle.std.specs.Prelude.{◌≡◌, ◌-◌, ◌<◌, ◌≤◌, [], ◌∷◌, ◌++◌, length, slice_index_or, IfOk, OnOk, OnErr};
 ghost use Rattle.std.specs.List.{insert, remove};
 ghost use Rattle.slot_keys.specs.{declared.key.Key.Key as TheKey};
-ghost use Rattle.packed_keys.specs.Rows.{IsFilled};
+ghost use Rattle.slot_keys.specs.Keys.{key_cmp};
+ghost use Rattle.comparison_steps.specs.Steps.{WithinSteps};
+ghost use Rattle.packed_keys.specs.{Rows.IsFilled, Search.EndsAt, Search.IsAfter};
 
-use crate::rows::{Rows, keys_with, rows_of};
+use crate::rows::{Rows, keys_with, rows_of, rows_with};
 use base::OutOfMemory;
+use comparison_steps::StepCounter;
 use slot_keys::Key;
 use std::alloc::Global;
 use std::marker::Model;
+use std::mem;
 
 /// How many keys a block has at most.
 pub const MOST: usize = 128;
@@ -89,6 +93,22 @@ impl Block {
         &self.first
     }
 
+    /// Finds a key among those from an index on, as std's `binary_search` answers. Each comparison is one step. The key before that index,
+    /// if any, is below it.
+    pub fn search<S: StepCounter>(
+        &self,
+        start: usize,
+        key: &Key,
+        steps: &mut S,
+    ) -> Result<usize, usize>
+        requires within { start ≤ length self.now }
+        requires above { IsAfter (key_cmp key.now) self.now start }
+        ensures ends { EndsAt (key_cmp key.now) self.now start result }
+        ensures cost { WithinSteps (length self.now - start) 0 (S.total steps.old) (S.total steps.new) }
+    {
+        self.rows.search(start, key, steps)
+    }
+
     /// Puts all keys behind others.
     pub fn append_to(&self, others: &mut Vec<Key>) -> Result<(), OutOfMemory>
         ensures { OnOk result (others.new.items ≡ others.old.items ++ self.now) }
@@ -107,9 +127,8 @@ impl Block {
             self.first = if at == 0 { key } else { self.first };
             return Ok(());
         }
-        let keys = keys_with(alloc, &self.rows, at, key)?;
-        let rows = rows_of(alloc, keys.as_slice())?;
-        self.rows = rows;
+        let rows = rows_with(alloc, &self.rows, at, key)?;
+        drop(mem::replace(&mut self.rows, rows));
         self.first = if at == 0 { key } else { self.first };
         Ok(())
     }
@@ -137,8 +156,25 @@ impl Block {
         ensures high { IfOk result (λ halves. IsFilled halves.high) }
     {
         let keys = keys_with(alloc, &self.rows, at, key)?;
-        let low = Block::of(alloc, &keys.as_slice()[..HALF])?;
-        let high = Block::of(alloc, &keys.as_slice()[HALF..])?;
-        Ok(Halves { low, high })
+        let halves = cut(alloc, keys.as_slice());
+        drop(keys);
+        halves
+    }
+}
+
+// The blocks of the first 64 of 129 keys and of the others.
+fn cut(alloc: Global, keys: &[Key]) -> Result<Halves, OutOfMemory>
+    requires { length keys.now ≡ 129 }
+    ensures keys { IfOk result (λ halves. halves.low ++ halves.high ≡ keys.now) }
+    ensures low { IfOk result (λ halves. IsFilled halves.low) }
+    ensures high { IfOk result (λ halves. IsFilled halves.high) }
+{
+    let low = Block::of(alloc, &keys[..HALF])?;
+    match Block::of(alloc, &keys[HALF..]) {
+        Ok(high) => Ok(Halves { low, high }),
+        Err(refused) => {
+            drop(low);
+            Err(refused)
+        }
     }
 }

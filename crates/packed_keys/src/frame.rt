@@ -15,7 +15,7 @@ pub struct Frame {
 }
 
 impl Frame {
-    ghost use Rattle.packed_keys.specs.Frames.{key_at};
+    ghost use Rattle.packed_keys.specs.Frames.{IsIn, key_at};
 
     /// The key with a number.
     pub fn key(&self, number: u64) -> Key
@@ -31,7 +31,8 @@ impl Frame {
 
     /// The number of a key, if it has one.
     pub fn number(&self, key: Key) -> Option<u64>
-        ensures { IfSome result (λ number. key_at self.now number ≡ key) }
+        ensures stands { IfSome result (λ number. key_at self.now number ≡ key) }
+        ensures inside { IfSome result (IsIn self.now) }
     {
         let first = u64::from(key.first.checked_sub(self.least.first)?);
         let second = u64::from(key.second.checked_sub(self.least.second)?);

@@ -1,13 +1,17 @@
 // A run of keys in cells of one size.
 
-ghost use Rattle.std.specs.Prelude.{◌≡◌, ◌<◌, ◌≤◌, ◌++◌, cond, length, slice_index_or, IfOk, IfSome, OnOk, OnErr};
+ghost use Rattle.std.specs.Prelude.{◌≡◌, ◌-◌, ◌<◌, ◌≤◌, ◌++◌, cond, length, slice_index_or, IfNone, IfOk, IfSome, OnOk, OnErr};
 ghost use Rattle.std.specs.List.{insert, remove};
 ghost use Rattle.slot_keys.specs.{declared.key.Key.Key as TheKey};
-ghost use Rattle.packed_keys.specs.Frames.{key_at};
+ghost use Rattle.slot_keys.specs.Keys.{key_cmp};
+ghost use Rattle.comparison_steps.specs.Steps.{WithinSteps};
+ghost use Rattle.packed_keys.specs.{Frames.IsIn, Frames.key_at, Search.EndsAt, Search.IsAfter};
 
 use crate::cell::Cell;
 use crate::frame::Frame;
+use crate::search::search_cells;
 use base::OutOfMemory;
+use comparison_steps::StepCounter;
 use slot_keys::Key;
 use std::alloc::Global;
 use std::marker::Model;
@@ -24,12 +28,17 @@ pub struct Packed<C: Cell> {
 
 impl<C: Cell> Model for Packed<C> {
     ghost use Rattle.std.specs.Prelude.{List as Items, map};
+    ghost use Rattle.std.specs.List.{All};
     ghost use Rattle.slot_keys.specs.declared.key.Key.{Key};
-    ghost use Rattle.packed_keys.specs.Frames.{key_at};
+    ghost use Rattle.slot_keys.specs.Keys.{key_cmp};
+    ghost use Rattle.comparison_steps.specs.Steps.{WithinSteps};
+    ghost use Rattle.packed_keys.specs.{Frames.IsIn, Frames.key_at, Search.EndsAt, Search.IsAfter};
 
     ghost Value = { Items Key };
 
     ghost view = { λ p. map (λ cell. key_at p.frame (C.number cell)) p.cells.items };
+
+    ghost invariant = { λ p. All (λ cell. IsIn p.frame (C.number cell)) p.cells.items };
 }
 
 impl<C: Cell> Packed<C> {
@@ -61,6 +70,25 @@ impl<C: Cell> Packed<C> {
         ensures { (d : TheKey) → result ≡ slice_index_or self.now at d }
     {
         self.frame.key(self.cells[at].number())
+    }
+
+    /// Finds a key among those from an index on by its number, as std's `binary_search` answers; none where it has no number in the frame,
+    /// and then without a step. Each comparison is one step. The key before that index, if any, is below it.
+    pub fn search<S: StepCounter>(
+        &self,
+        start: usize,
+        key: Key,
+        steps: &mut S,
+    ) -> Option<Result<usize, usize>>
+        requires within { start ≤ length self.now }
+        requires above { IsAfter (key_cmp key) self.now start }
+        ensures ends { IfSome result (EndsAt (key_cmp key) self.now start) }
+        ensures cost { IfSome result (λ _. WithinSteps (length self.now - start) 0 (S.total steps.old) (S.total steps.new)) }
+        ensures none { IfNone result (S.total steps.new ≡ S.total steps.old) }
+    {
+        let number = self.frame.number(key)?;
+        let ended = search_cells(self.cells.as_slice(), start, number, steps);
+        Some(ended)
     }
 
     /// Puts a key in at an index, and moves those from there on up by one. Where the key has no number that fits, it answers false, and
@@ -99,7 +127,8 @@ impl<C: Cell> Packed<C> {
 
 // The cell of a key, if it is large enough for the key's number in the frame.
 fn cell_of<C: Cell>(frame: &Frame, key: Key) -> Option<C>
-    ensures { IfSome result (λ cell. key_at frame.now (C.number cell) ≡ key) }
+    ensures stands { IfSome result (λ cell. key_at frame.now (C.number cell) ≡ key) }
+    ensures inside { IfSome result (λ cell. IsIn frame.now (C.number cell)) }
 {
     let number = frame.number(key)?;
     let cell = C::with(number)?;

@@ -1,16 +1,20 @@
 // The keys of a block, in cells of the smallest size that has them all.
 
-ghost use Rattle.std.specs.Prelude.{◌≡◌, ◌<◌, ◌≤◌, ◌++◌, cond, length, slice_index_or, IfOk, OnOk, OnErr};
+ghost use Rattle.std.specs.Prelude.{◌≡◌, ◌-◌, ◌<◌, ◌≤◌, ◌++◌, cond, length, slice_index_or, IfNone, IfOk, IfSome, OnOk, OnErr};
 ghost use Rattle.std.specs.List.{insert, remove};
 ghost use Rattle.slot_keys.specs.{declared.key.Key.Key as TheKey};
-ghost use Rattle.packed_keys.specs.Rows.{keys_of};
+ghost use Rattle.slot_keys.specs.Keys.{key_cmp};
+ghost use Rattle.comparison_steps.specs.Steps.{WithinSteps};
+ghost use Rattle.packed_keys.specs.{Rows.keys_of, Search.EndsAt, Search.IsAfter};
 
 use crate::cell::SixBytes;
 use crate::packed::Packed;
 use crate::spread::{Choice, choice_for};
 use base::OutOfMemory;
+use comparison_steps::{Ranked, StepCounter};
 use slot_keys::Key;
 use std::alloc::Global;
+use std::cmp::Ordering;
 
 /// Keys in cells of 4, 6 or 8 bytes, or as they are.
 #[derive(Drop)]
@@ -68,6 +72,72 @@ impl Rows {
             Rows::Wide(keys) => keys.key(at),
             Rows::Whole(keys) => keys[at],
         }
+    }
+
+    /// Finds a key among those from an index on, as std's `binary_search` answers. Each comparison is one step. The key before that index,
+    /// if any, is below it.
+    pub fn search<S: StepCounter>(
+        &self,
+        start: usize,
+        key: &Key,
+        steps: &mut S,
+    ) -> Result<usize, usize>
+        requires within { start ≤ length (keys_of self.now) }
+        requires above { IsAfter (key_cmp key.now) (keys_of self.now) start }
+        ensures ends { EndsAt (key_cmp key.now) (keys_of self.now) start result }
+        ensures cost { WithinSteps (length (keys_of self.now) - start) 0 (S.total steps.old) (S.total steps.new) }
+    {
+        match self.search_numbers(start, key, steps) {
+            Some(ended) => ended,
+            None => self.search_keys(start, key, steps),
+        }
+    }
+
+    // The same by the key's number; none where it has none, and then without a step.
+    fn search_numbers<S: StepCounter>(
+        &self,
+        start: usize,
+        key: &Key,
+        steps: &mut S,
+    ) -> Option<Result<usize, usize>>
+        requires within { start ≤ length (keys_of self.now) }
+        requires above { IsAfter (key_cmp key.now) (keys_of self.now) start }
+        ensures ends { IfSome result (EndsAt (key_cmp key.now) (keys_of self.now) start) }
+        ensures cost { IfSome result (λ _. WithinSteps (length (keys_of self.now) - start) 0 (S.total steps.old) (S.total steps.new)) }
+        ensures none { IfNone result (S.total steps.new ≡ S.total steps.old) }
+    {
+        match self {
+            Rows::Narrow(keys) => keys.search(start, *key, steps),
+            Rows::Middle(keys) => keys.search(start, *key, steps),
+            Rows::Wide(keys) => keys.search(start, *key, steps),
+            Rows::Whole(_) => None,
+        }
+    }
+
+    // The same by the keys.
+    fn search_keys<S: StepCounter>(
+        &self,
+        start: usize,
+        key: &Key,
+        steps: &mut S,
+    ) -> Result<usize, usize>
+        requires within { start ≤ length (keys_of self.now) }
+        requires above { IsAfter (key_cmp key.now) (keys_of self.now) start }
+        ensures ends { EndsAt (key_cmp key.now) (keys_of self.now) start result }
+        ensures cost { WithinSteps (length (keys_of self.now) - start) 0 (S.total steps.old) (S.total steps.new) }
+    {
+        let mut low = start;
+        let mut high = self.len();
+        while low < high {
+            let middle = low + (high - low) / 2;
+            let here = self.key(middle);
+            match key.rank(&here, steps) {
+                Ordering::Less => high = middle,
+                Ordering::Equal => return Ok(middle),
+                Ordering::Greater => low = middle + 1,
+            }
+        }
+        Err(low)
     }
 
     /// Puts a key in at an index. Where the cells are too small for it, it answers false, and nothing has changed; after `OutOfMemory`
@@ -146,4 +216,15 @@ pub fn keys_with(alloc: Global, rows: &Rows, at: usize, key: Key) -> Result<Vec<
     rows.append_to(&mut keys)?;
     keys.insert(at, key)?;
     Ok(keys)
+}
+
+/// The rows of the keys with one more at an index, in no more memory than they need.
+pub fn rows_with(alloc: Global, rows: &Rows, at: usize, key: Key) -> Result<Rows, OutOfMemory>
+    requires { at ≤ length (keys_of rows.now) }
+    ensures { IfOk result (λ made. keys_of made ≡ insert (keys_of rows.now) at key) }
+{
+    let keys = keys_with(alloc, rows, at, key)?;
+    let made = rows_of(alloc, keys.as_slice());
+    drop(keys);
+    made
 }
