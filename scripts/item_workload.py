@@ -21,6 +21,7 @@ PROPERTIES = ["P17", "P31", "P47", "P131", "P190", "P214", "P227", "P244", "P373
               "P1566", "P2046"]
 ITEM_PROPERTIES = {"P17", "P31", "P47", "P131", "P190", "P910", "P1343"}
 BYTES = 22600  # of a page whose scale is 1
+CODES = LANGUAGES + "ja zh uk ar ca el et gl hr hu id ko lt lv mk ms nn no ro sk sl sr th tr vi bg af ast be br cy eo fa ga hi hy is ka kk".split()
 CALENDAR = "http://www.wikidata.org/entity/Q1985727"
 
 
@@ -68,13 +69,13 @@ def some(chance, most, scale):
 
 def page(chance, item, scale):
     """A page of an item; a page of scale 1 has some 22,600 bytes."""
-    languages = chance.sample(LANGUAGES, min(len(LANGUAGES), some(chance, 20, scale)))
-    names = chance.choices(PROPERTIES, k=some(chance, 28, scale))
-    return {"type": "item", "id": item, "labels": tagged(chance, languages), "descriptions": tagged(chance, languages[:some(chance, 14, scale)]),
+    languages = chance.sample(CODES, min(len(CODES), some(chance, 34, scale)))
+    names = chance.choices(PROPERTIES, k=some(chance, 22, scale))
+    return {"type": "item", "id": item, "labels": tagged(chance, languages), "descriptions": tagged(chance, languages[:some(chance, 20, scale)]),
             "aliases": {code: list(tagged(chance, [code]).values()) for code in languages[:some(chance, 6, scale)]},
             "claims": {name: [statement(chance, item, name) for _ in range(names.count(name))] for name in sorted(set(names))},
             "sitelinks": {f"{code}wiki": {"site": f"{code}wiki", "title": f"{word(chance)} {item}", "badges": [], "url": f"https://{code}.wikipedia.org/"}
-                          for code in languages[:some(chance, 12, scale)]},
+                          for code in languages[:some(chance, 15, scale)]},
             "modified": "2024-05-01T12:00:00Z"}
 
 
@@ -119,7 +120,7 @@ def make(folder, items, size, edits, parts, seed):
 
     def made_page(number):
         own = random.Random(f"{seed}/{number}")
-        scale = min(4.0, max(0.35, own.lognormvariate(0, 0.6))) * (size - 250) / (1.18 * BYTES + 600)
+        scale = min(4.0, max(0.35, own.lognormvariate(0, 0.6))) * (size - 100) / (1.03 * BYTES)
         return page(own, f"Q{number}", scale)
 
     for number in range(1, items + 1):
