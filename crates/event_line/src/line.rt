@@ -1,8 +1,8 @@
 // One line of an event file.
 
-ghost use Rattle.std.specs.Prelude.{◌≡◌, ◌⊎◌, None, Some, MatchResult, IfOk};
+ghost use Rattle.std.specs.Prelude.{◌≡◌, ◌⊎◌, None, Some, MatchResult, IfOk, option_map};
 ghost use Rattle.serde_json.specs.{Data.string, View.view};
-ghost use Rattle.event_line.specs.Line.{Answers, AnswersPart, data_of, delivered, delivery_in, else_cause, event_in, watermark_in, ask_in, mapping_in, match_in, version_of, pattern_of, pattern_with, term_wanted_by, kind_named, kind_name, entity_of, rev_of, time_at, whole_kind};
+ghost use Rattle.event_line.specs.Line.{Answers, AnswersPart, data_of, delivered, delivery_in, else_cause, event_in, watermark_in, ask_in, mapping_in, match_in, version_of, pattern_of, pattern_with, term_wanted_by, kind_named, kind_name, entity_of, rev_of, text_at, time_at, whole_kind};
 ghost use Rattle.event_line.specs.declared.faults.DeliveryFault.TheVariants.{Bad as Refused, OutOfMemory as DeliveryOutOfMemory};
 ghost use Rattle.event_line.specs.declared.faults.LineCause.TheVariants.{NotJson as NoJson};
 
@@ -13,7 +13,7 @@ use crate::term::term;
 use crate::time;
 use delivery::Delivery;
 use entity_model::{EntityId, Event, Kind, MappingVersion};
-use rdf_term::{Pattern, Term};
+use rdf_term::{OutOfMemory, Pattern, Term};
 use serde_json::Value;
 use std::alloc::Global;
 
@@ -46,7 +46,10 @@ pub fn delivery(alloc: Global, line: &[u8]) -> Result<Delivery, DeliveryFault>
         return Ok(Delivery::Watermark(time));
     }
     if let Some(texts) = ask_texts(line) {
-        return Ok(Delivery::Ask(pattern_with(alloc, texts)?));
+        return match pattern_with(alloc, texts) {
+            Ok(pattern) => Ok(Delivery::Ask(pattern)),
+            Err(fault) => Err(fault),
+        };
     }
     let value = read_value(alloc, line)?;
     let delivered = delivery_in(alloc, &value);
@@ -105,11 +108,21 @@ fn event_delivery(object: &Value) -> Result<Delivery, DeliveryFault>
 fn event(object: &Value) -> Result<Event, LineCause>
     ensures { result ≡ event_in (view object.now) }
 {
-    let name = kind_name(object).ok_or(LineCause::Kind)?;
-    let entity = entity(object).ok_or(LineCause::Entity)?;
-    let rev = rev(object).ok_or(LineCause::Rev)?;
-    let time = time_at(object, "time").ok_or(LineCause::Time)?;
-    let kind = whole_kind(name, object).ok_or(LineCause::Mode)?;
+    let Some(name) = kind_name(object) else {
+        return Err(LineCause::Kind);
+    };
+    let Some(entity) = entity(object) else {
+        return Err(LineCause::Entity);
+    };
+    let Some(rev) = rev(object) else {
+        return Err(LineCause::Rev);
+    };
+    let Some(time) = time_at(object, "time") else {
+        return Err(LineCause::Time);
+    };
+    let Some(kind) = whole_kind(name, object) else {
+        return Err(LineCause::Mode);
+    };
     Ok(Event {
         entity,
         time,
@@ -132,7 +145,10 @@ fn watermark(object: &Value) -> Result<Delivery, DeliveryFault>
 fn ask(alloc: Global, value: &Value) -> Result<Delivery, DeliveryFault>
     ensures { AnswersPart (ask_in (view value.now)) result }
 {
-    Ok(Delivery::Ask(pattern(alloc, value)?))
+    match pattern(alloc, value) {
+        Ok(pattern) => Ok(Delivery::Ask(pattern)),
+        Err(fault) => Err(fault),
+    }
 }
 
 /// The change to the version with that value of `mapping`.
@@ -149,7 +165,10 @@ fn mapping(value: &Value) -> Result<Delivery, DeliveryFault>
 fn matching(alloc: Global, value: &Value) -> Result<Delivery, DeliveryFault>
     ensures { AnswersPart (match_in (view value.now)) result }
 {
-    Ok(Delivery::Match(query(alloc, value)?))
+    match query(alloc, value) {
+        Ok(query) => Ok(Delivery::Match(query)),
+        Err(fault) => Err(fault),
+    }
 }
 
 /// The version whose number a value is, in digits alone.
@@ -231,14 +250,25 @@ fn wanted_term(alloc: Global, text: &str) -> Result<Option<Term>, DeliveryFault>
 {
     match text {
         "?" => Ok(None),
-        text => Ok(Some(term(alloc, text)?.ok_or(LineCause::Pattern)?)),
+        text => match term(alloc, text) {
+            Ok(Some(term)) => Ok(Some(term)),
+            Ok(None) => Err(DeliveryFault::Bad(LineCause::Pattern)),
+            Err(OutOfMemory) => Err(DeliveryFault::OutOfMemory),
+        },
     }
 }
 
 fn kind_name(object: &Value) -> Option<KindName>
     ensures { result ≡ kind_name (view object.now) }
 {
-    kind_named(object.get("kind")?.as_str()?)
+    kind_named(text_at(object, "kind")?)
+}
+
+/// The text that is the value of a key.
+fn text_at<'a>(object: &'a Value, key: &str) -> Option<&'a str>
+    ensures { option_map (λ text. text.now) result ≡ text_at key.now (view object.now) }
+{
+    object.get(key)?.as_str()
 }
 
 pub(crate) fn kind_named(text: &str) -> Option<KindName>
@@ -256,7 +286,7 @@ pub(crate) fn kind_named(text: &str) -> Option<KindName>
 fn entity(object: &Value) -> Option<EntityId>
     ensures { result ≡ entity_of (view object.now) }
 {
-    EntityId::read(object.get("entity")?.as_str()?)
+    EntityId::read(text_at(object, "entity")?)
 }
 
 fn rev(object: &Value) -> Option<u64>
@@ -272,7 +302,7 @@ fn rev(object: &Value) -> Option<u64>
 fn time_at(object: &Value, key: &str) -> Option<i64>
     ensures { result ≡ time_at key.now (view object.now) }
 {
-    time::microseconds(object.get(key)?.as_str()?.as_bytes())
+    time::microseconds(text_at(object, key)?.as_bytes())
 }
 
 /// The kind of an event with that name; of a reconciliation, by its mode.
@@ -283,7 +313,7 @@ fn whole_kind(name: KindName, object: &Value) -> Option<Kind>
         KindName::Edit => Some(Kind::Edit),
         KindName::Delete => Some(Kind::Delete),
         KindName::Undelete => Some(Kind::Undelete),
-        KindName::Reconcile => match object.get("mode")?.as_str()? {
+        KindName::Reconcile => match text_at(object, "mode")? {
             "kept" => Some(Kind::ReconcileKept),
             "deleted" => Some(Kind::ReconcileDeleted),
             _ => None,

@@ -104,12 +104,14 @@ impl Graph {
         ensures { self.new ≡ record self.old { sets = map.remove self.old.sets id } }
     {
         if let Some(keys) = take_out(&mut self.owned, id) {
-            let Ok(_) = self
+            match self
                 .store
                 .release(keys.slices(), Telling::Nothing, &mut Uncounted)
-            else {
-                unreachable!()
-            };
+            {
+                Ok(told) => drop(told),
+                Err(_) => unreachable!(),
+            }
+            drop(keys);
         }
     }
 
@@ -143,7 +145,7 @@ fn put(owned: &mut IndexMap<EntityId, Keys, RandomState>, id: EntityId, keys: Ke
     requires { 0 < spare owned.old }
     ensures { (other : Id) → keys_at owned.new.entries other ≡ cond (eq_by_cmp entity_cmp id other) (Some keys) (keys_at owned.old.entries other) }
 {
-    let _ = owned.insert(id, keys);
+    drop(owned.insert(id, keys));
 }
 
 // Takes the keys of an entity out. It takes no memory.

@@ -13,6 +13,6 @@ mod split;
 /// Which graph a document goes to.
 pub use graph_routes::{Routes, route};
 pub use laws::{graphs_are_the_union, graphs_follow_the_records, graphs_need_no_more_room};
-pub use split::Split;
+pub use split::{Split, discard};
 /// Why a graph takes no triples: the limit on distinct terms is reached, or memory was refused.
 pub use triple_store::StoreFault;

@@ -57,7 +57,9 @@ impl Split {
     {
         let mut made = Vec::with_capacity(alloc, graphs)?;
         for _ in 0..graphs {
-            let graph = Graph::new(alloc, keys, limit)?;
+            let Ok(graph) = Graph::new(alloc, keys, limit) else {
+                return Err(OutOfMemory);
+            };
             made.push(graph)?;
         }
         Ok(Split {
@@ -80,7 +82,9 @@ impl Split {
         let Ok(texts) = texts_of(self.alloc(), new) else {
             return Err(StoreFault::OutOfMemory);
         };
-        self.set_texts(id, graph, &texts)
+        let done = self.set_texts(id, graph, &texts);
+        drop(texts);
+        done
     }
 
     // Where memory comes from.
@@ -141,7 +145,10 @@ impl Split {
         requires { graph < self.now.graphs }
         ensures { IfOk result (λ set. set ≡ rows (graph_triples self.now.entries graph) pattern.now) }
     {
-        self.matching(graph, pattern)?.to_set(self.alloc)
+        let rows = self.matching(graph, pattern)?;
+        let set = rows.to_set(self.alloc);
+        drop(rows);
+        set
     }
 
     /// The triples of a graph, in memory of their own.
@@ -149,7 +156,10 @@ impl Split {
         requires { graph < self.now.graphs }
         ensures { IfOk result (λ set. set ≡ graph_triples self.now.entries graph) }
     {
-        self.rows(graph)?.to_set(self.alloc)
+        let rows = self.rows(graph)?;
+        let set = rows.to_set(self.alloc);
+        drop(rows);
+        set
     }
 }
 
@@ -159,6 +169,16 @@ fn texts_of(alloc: Global, set: &TripleSet) -> Result<TripleTexts, OutOfMemory>
     ensures rising { IsRising triple_cmp set.now }
 {
     let mut texts = TripleTexts::new(alloc);
-    emit_all(alloc, set.items(), &mut texts)?;
-    Ok(texts)
+    match emit_all(alloc, set.items(), &mut texts) {
+        Ok(()) => Ok(texts),
+        Err(refused) => {
+            drop(texts);
+            Err(refused)
+        }
+    }
+}
+
+/// Gives back the memory of a split, if there is one. So the drop of all that it may hold is proved here, and not in each crate that has one.
+pub fn discard(split: Option<Split>) {
+    drop(split);
 }

@@ -7,8 +7,8 @@ use Rattle.subgraph.proofs.split.Split.new.Goals as goal
 
 pub loop-preserved : goal.loop-preserved
 loop-preserved c = (
-  omega (arith, ap length c.in_ok-push.ensures.items, length-append c.loop.made.items (c.in_ok-graph.graph ∷ []), c.loop.invariant.0),
-  subst (AllByRecursion (λ g. g ≡ blank_graph c.args.limit)) (sym c.in_ok-push.ensures.items) (blank_more c.args.limit c.loop.made.items c.in_ok-graph.graph c.loop.invariant.1 c.in_ok-graph.ensures),
+  omega (arith, ap length c.in_ok-push.ensures.items, length-append c.loop.made.items (c.in-Ok.graph ∷ []), c.loop.invariant.0),
+  subst (AllByRecursion (λ g. g ≡ blank_graph c.args.limit)) (sym c.in_ok-push.ensures.items) (blank_more c.args.limit c.loop.made.items c.in-Ok.graph c.loop.invariant.1 c.in-Ok.ensures),
 )
 
 pub invariant_of-result : goal.invariant_of-result

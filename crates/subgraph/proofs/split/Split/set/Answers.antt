@@ -14,4 +14,4 @@ returns-clause-ok c =
     let same : sorted triple_cmp c.in-Ok.texts ≡ c.args.new.now =
     ap (sorted triple_cmp) c.in-Ok.ensures.texts ∙ sorted_rising triple_cmp-total triple_cmp-IsAntisymmetric c.args.new.now c.texts_of.ensures.rising in
     let with_set : List Triple → SplitState = λ ts. record { entries = map.insert c.args.self.now.entries c.args.id (entry c.args.graph ts); graphs = c.args.self.now.graphs; limit = c.args.self.now.limit } in
-    on_ok_weaker c.set_texts.result (λ is. is ∙ ap with_set same) c.set_texts.ensures.ok
+    on_ok_weaker c.set_texts-done.result (λ is. is ∙ ap with_set same) c.set_texts-done.ensures.ok
