@@ -37,11 +37,11 @@ all_fit (x ∷ xs) p h = by (p x) (all_fit xs p h.1)
     by true rest = (record { subject = h.0.subject.canonical; predicate = h.0.predicate.canonical; object = h.0.object.canonical }, rest)
     by false rest = rest
 
-left_part : (xs ys : List Triple) → AllByRecursion HasReadableTerms (xs ++ ys) → AllByRecursion HasReadableTerms xs
+pub left_part : (xs ys : List Triple) → AllByRecursion HasReadableTerms (xs ++ ys) → AllByRecursion HasReadableTerms xs
 left_part [] ys h = tt
 left_part (x ∷ xs) ys h = (h.0, left_part xs ys h.1)
 
-one_at_most : (b : Bool) → one_if b ≤ 1
+pub one_at_most : (b : Bool) → one_if b ≤ 1
 one_at_most true = omega arith
 one_at_most false = omega arith
 
@@ -53,7 +53,7 @@ may_come store item once sound = record {
   countable = λ t _. omega (arith, once t, one_at_most (has triple_cmp t (map.keys (counts_in store))));
 }
 
-some_one : (b : Bool) → b ≡ true → 0 < one_if b
+pub some_one : (b : Bool) → b ≡ true → 0 < one_if b
 some_one true h = omega arith
 some_one false h = cc
 
@@ -76,7 +76,7 @@ counted n false false true apart h = omega (arith, h)
 counted n false false false apart h = omega (arith, h)
 
 -- a triple is stored exactly where it has an owner
-stored_by_count : (store : StoreState) → StoreIsSound store → (t : Triple) (b : Bool) → count_of (counts_in store) t ≡ one_if b → has triple_cmp t (map.keys (counts_in store)) ≡ b
+pub stored_by_count : (store : StoreState) → StoreIsSound store → (t : Triple) (b : Bool) → count_of (counts_in store) t ≡ one_if b → has triple_cmp t (map.keys (counts_in store)) ≡ b
 stored_by_count store sound t true one =
     sym (map.contains_key-keys (counts_in store) t) ∙ stored_if (counts_in store) t (omega (arith, one))
 stored_by_count store sound t false none = sym (map.contains_key-keys (counts_in store) t) ∙ by (map.contains_key (counts_in store) t) refl
@@ -126,7 +126,7 @@ term_of_one (t ∷ ts) x h =
     (one_of (has term_cmp x (terms_of t)) (has term_cmp x (flat_map terms_of ts)) (sym (has-append term_cmp x (terms_of t) (flat_map terms_of ts)) ∙ h))
 
 -- the terms of triples that are among others are among theirs
-few_terms : (xs ys : List Triple) → ((t : Triple) → has triple_cmp t xs ≡ true → has triple_cmp t ys ≡ true) → distinct (flat_map terms_of xs) ≤ distinct (flat_map terms_of ys)
+pub few_terms : (xs ys : List Triple) → ((t : Triple) → has triple_cmp t xs ≡ true → has triple_cmp t ys ≡ true) → distinct (flat_map terms_of xs) ≤ distinct (flat_map terms_of ys)
 few_terms xs ys among =
     fewer term_cmp-total term_cmp-IsAntisymmetric (flat_map terms_of xs) (flat_map terms_of ys)
     (λ x there. let one = term_of_one xs x there in (terms_among ys one.0 (among one.0 one.1)).each x one.2)

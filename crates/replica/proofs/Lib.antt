@@ -1,4 +1,6 @@
 pub mod Applied
+pub mod AtOnce
+pub mod ByTexts
 pub mod Determined
 pub mod Following
 pub mod Heads

@@ -1,16 +1,15 @@
 -- Terms whose canonical texts have no escape.
-use Rattle.std.proofs.Common.{◌≡◌, ◌↔◌, ℕ, suc, ◌+◌, ◌<◌, ◌≤◌, Bool, true, false, not, cond, ◌==◌, nat_lt, List, [], ◌∷◌, ◌++◌, length, take, Some, None, IfSome, refl, sym, ap, ◌∙◌, subst, arith}
+use Rattle.std.proofs.Common.{◌≡◌, ℕ, suc, ◌+◌, ◌<◌, ◌≤◌, Bool, true, false, not, cond, ◌==◌, nat_lt, List, [], ◌∷◌, ◌++◌, length, take, Option, Some, None, IfSome, refl, sym, ap, ◌∙◌, subst, arith}
 use Rattle.std.specs.List.{list_any, position, prefix_len}
 use Rattle.std.specs.Str.{IsUtf8, bytes_eq}
 use Rattle.std.proofs.lemmas.Bool.{and_from, or_parts}
 use Rattle.std.proofs.lemmas.List.Sums.{prefix_len-le-length}
-use Rattle.rdf_term.specs.declared.term.Term.{Term}
 use Rattle.rdf_term.specs.declared.term.Term.TheVariants.{Iri, Plain, Lang, Typed}
 use Rattle.rdf_term.specs.{Fit.xsd_string, Grammar.is_iri, Grammar.is_tag, Text.in_brackets, Text.is_escaped}
-use Rattle.rdf_term.proofs.Texts.{same_text}
 use Rattle.rdf_term.proofs.Unescaped.{escaped_same}
 use Rattle.rdf_term.proofs.Utf8Texts.{iri_utf8, lang_utf8, plain_utf8, typed_utf8}
 use Rattle.sorted_sets.specs.Rising.{Each}
+use Rattle.triple_sink.specs.{TermRef.meant, declared.term_ref.TermRef.TermRef}
 use Rattle.replica.specs.declared.term_end.TermState.TheVariants.{Outside}
 use Rattle.replica.specs.{PlainTerm.IsFitText, TermEnd.is_edge, TermEnd.split_term, TripleLine.IsTermText}
 use Rattle.replica.proofs.TermEnds.{IsInner, split_inner}
@@ -63,14 +62,11 @@ typed_fits content rest datatype is iri other none text_utf8 datatype_utf8 = rec
   utf8 = typed_utf8 content datatype text_utf8 datatype_utf8;
 }
 
--- the term of a canonical text
-pub only_term : (bytes : List ℕ) (found : Term) → length bytes ≤ 33554432 → IsFitText bytes found → (term : Term) → (Some found ≡ Some term) ↔ IsTermText bytes term
-only_term bytes found short fits term = (
-  (λ e.
-      let is : found ≡ term = cc in
-      subst (IsTermText bytes) is (record { text = fits.text; readable = record { canonical = record { fit = fits.fit; short = subst (λ l. length l ≤ 33554432) fits.text short }; utf8 = fits.utf8 } })),
-  (λ is. ap (λ t. Some t) (same_text found term (sym fits.text ∙ is.text))),
-)
+-- a fit term whose text isn't too long
+pub short_fits : (bytes : List ℕ) (found : Option TermRef) → length bytes ≤ 33554432 → IfSome found (λ term. IsFitText bytes (meant term)) → IfSome found (λ term. IsTermText bytes (meant term))
+short_fits bytes None short fits = tt
+short_fits bytes (Some term) short fits =
+    record { text = fits.text; readable = record { canonical = record { fit = fits.fit; short = subst (λ l. length l ≤ 33554432) fits.text short }; utf8 = fits.utf8 } }
 
 -- ---- where a term without quotes ends
 

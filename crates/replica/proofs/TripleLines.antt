@@ -1,6 +1,7 @@
 -- The parts of a triple's line.
-use Rattle.std.proofs.Common.{◌≡◌, ◌↔◌, ℕ, List, [], ◌∷◌, ◌++◌, Option, Some, sym, ◌∙◌, ap, append_assoc}
+use Rattle.std.proofs.Common.{◌≡◌, ◌↔◌, ℕ, List, [], ◌∷◌, ◌++◌, Option, Some, None, IfSome, MatchOption, sym, ◌∙◌, ap, append_assoc}
 use Rattle.rdf_term.specs.{declared.triple.Triple.Triple, Text.spaced, Text.term_text, Text.triple_text}
+use Rattle.triple_texts.specs.declared.triple_text.TripleText.{TripleText}
 use Rattle.replica.specs.TripleLine.{AreTermTexts, IsTripleLine, triple_line}
 
 -- three texts with the spaces and the full stop of a line
@@ -28,18 +29,23 @@ line_text triple =
     )
 
 -- the texts of a line are those of its triple
-pub texts_or_line : (line subject predicate object : List ℕ) → line ≡ joined subject predicate object →
-    ((triple : Triple) → IsTripleLine line triple → (subject ≡ term_text triple.subject) × (predicate ≡ term_text triple.predicate) × (object ≡ term_text triple.object)) →
-    (found : Option Triple) → ((triple : Triple) → (found ≡ Some triple) ↔ AreTermTexts subject predicate object triple) →
-    (triple : Triple) → (found ≡ Some triple) ↔ IsTripleLine line triple
-texts_or_line line subject predicate object parts whole found read triple = (
-  (λ is. let has = (read triple).0 is in record {
+texts_of_line : (line : List ℕ) (texts : TripleText) → line ≡ joined texts.subject.now texts.predicate.now texts.object.now →
+    ((triple : Triple) → IsTripleLine line triple → (texts.subject.now ≡ term_text triple.subject) × (texts.predicate.now ≡ term_text triple.predicate) × (texts.object.now ≡ term_text triple.object)) →
+    (triple : Triple) → IsTripleLine line triple ↔ AreTermTexts texts triple
+texts_of_line line texts parts whole triple = (
+  (λ is. let at = whole triple is in record {
+    subject_is = record { text = at.0; readable = is.readable.subject };
+    predicate_is = record { text = at.1; readable = is.readable.predicate };
+    object_is = record { text = at.2; readable = is.readable.object };
+  }),
+  (λ has. record {
     text = parts ∙ rw (has.subject_is.text, has.predicate_is.text, has.object_is.text) (sym (line_joins triple));
     readable = record { subject = has.subject_is.readable; predicate = has.predicate_is.readable; object = has.object_is.readable };
   }),
-  (λ is. let texts = whole triple is in (read triple).1 (record {
-    subject_is = record { text = texts.0; readable = is.readable.subject };
-    predicate_is = record { text = texts.1; readable = is.readable.predicate };
-    object_is = record { text = texts.2; readable = is.readable.object };
-  })),
 )
+
+pub texts_if : (line : List ℕ) (found : Option TripleText) → IfSome found (λ texts. line ≡ joined texts.subject.now texts.predicate.now texts.object.now) →
+    ((triple : Triple) → IsTripleLine line triple → MatchOption found ⊥ (λ texts. (texts.subject.now ≡ term_text triple.subject) × (texts.predicate.now ≡ term_text triple.predicate) × (texts.object.now ≡ term_text triple.object))) →
+    IfSome found (λ texts. (triple : Triple) → IsTripleLine line triple ↔ AreTermTexts texts triple)
+texts_if line None parts whole = tt
+texts_if line (Some texts) parts whole = texts_of_line line texts parts whole

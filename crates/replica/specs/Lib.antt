@@ -1,3 +1,4 @@
+pub mod Applying
 pub mod Head
 pub mod Laws
 pub mod PlainTerm

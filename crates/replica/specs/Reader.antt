@@ -1,12 +1,13 @@
 -- What a reader of records gives and refuses, line by line.
 use Rattle.std.specs.Prelude.{◌≡◌, ◌≢◌, ℕ, ◌≤◌, Bool, true, false, not, ◌&&◌, ◌==◌, nat_lt, if◌then◌else◌, List, [], ◌∷◌, ◌++◌, length, Option, None, Some, MatchOption, ⊤}
-use Rattle.std.specs.{List.AllByRecursion, Ordering.is_lt}
+use Rattle.std.specs.{List.AllByRecursion, Ordering.is_lt, Ordering.ordering_then, declared.cmp.Ordering.Ordering}
 use Rattle.sorted_sets.specs.Rising.{IsRising, has}
-use Rattle.rdf_term.specs.{declared.triple.Triple.Triple, Order.triple_cmp}
+use Rattle.rdf_term.specs.{declared.triple.Triple.Triple, Order.bytes_cmp, Order.triple_cmp}
+use Rattle.triple_texts.specs.declared.triple_text.TripleText.{TripleText}
 use Rattle.replica.specs.{declared.head.Head.Head, declared.record.PatchRecord.PatchRecord, declared.reader.Begun.Begun}
 use Rattle.replica.specs.declared.reader.PatchFault.{PatchFault}
 use Rattle.replica.specs.declared.reader.PatchFault.TheVariants.{Head as NoHead, Triple as NoTriple, Order as OutOfOrder, OutOfMemory}
-use Rattle.replica.specs.{Head.IsHead, Head.head_line, Record.lines_with, TripleLine.HasReadableTerms, TripleLine.IsTripleLine}
+use Rattle.replica.specs.{Head.IsHead, Head.head_line, Record.lines_with, TripleLine.AreTermTexts, TripleLine.HasReadableTerms, TripleLine.IsTripleLine}
 
 -- the lines that were read of a record
 abbrev pub lines_read : Option Begun → List (List ℕ)
@@ -52,6 +53,10 @@ given begun = if all_read begun then Some (patch_read begun) else None
 unfoldable pub left : Begun → Option Begun
 left begun = if all_read begun then None else Some begun
 
+-- by the subject's text, then the predicate's, then the object's
+abbrev pub text_cmp : TripleText → TripleText → Ordering
+text_cmp a b = ordering_then (bytes_cmp a.subject.now b.subject.now) (ordering_then (bytes_cmp a.predicate.now b.predicate.now) (bytes_cmp a.object.now b.object.now))
+
 -- with the line, this was read of a record: the line is its head, or that of its next triple
 abbrev pub Grows : Option Begun → List ℕ → Begun → Type 0
 Grows None line begun = IsHead line begun.head × (begun ≡ opened begun.head)
@@ -80,6 +85,17 @@ pub record IsPart (begun : Begun) : Type 0 where
 pub record IsUnfinished (begun : Begun) : Type 0 where
   pub part : IsPart begun
   pub lacks : all_read begun ≡ false
+
+-- the same for a triple by its texts
+abbrev pub GrowsBy : Begun → TripleText → Begun → Type 0
+GrowsBy before texts begun = (triple : Triple) × AreTermTexts texts triple × (may_come_next before triple ≡ true) × (begun ≡ with_triple before triple)
+
+-- why these texts are refused: they aren't a triple's, or this triple may not follow
+abbrev pub IsCauseBy : PatchFault → Begun → TripleText → Type 0
+IsCauseBy NoHead before texts = ⊥
+IsCauseBy NoTriple before texts = (triple : Triple) → AreTermTexts texts triple → ⊥
+IsCauseBy OutOfOrder before texts = (triple : Triple) × AreTermTexts texts triple × (may_come_next before triple ≡ false)
+IsCauseBy OutOfMemory before texts = ⊤
 
 -- why a line is refused: it should be a head, or a triple, and isn't; or this triple may not follow
 abbrev pub HasCause : PatchFault → Option Begun → List ℕ → Type 0

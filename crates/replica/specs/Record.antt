@@ -1,9 +1,10 @@
 -- Records of patches and their texts.
-use Rattle.std.specs.Prelude.{◌≡◌, ℕ, ◌<◌, true, false, List, ◌∷◌, ◌++◌, length}
+use Rattle.std.specs.Prelude.{◌≡◌, ℕ, ◌<◌, true, false, List, [], ◌∷◌, ◌++◌, length}
 use Rattle.std.specs.Prelude.{map as mapped}
 use Rattle.std.specs.List.{AllByRecursion}
 use Rattle.sorted_sets.specs.Rising.{IsRising, has}
 use Rattle.rdf_term.specs.{declared.triple.Triple.Triple, Order.triple_cmp}
+use Rattle.triple_texts.specs.declared.triple_text.TripleText.{TripleText}
 use Rattle.wq_io.specs.Lines.{ended_lines}
 use Rattle.replica.specs.{declared.head.Head.Head, declared.record.PatchRecord.PatchRecord, Head.head_line}
 use Rattle.replica.specs.TripleLine.{HasReadableTerms, triple_line}
@@ -31,3 +32,7 @@ pub record IsSound (item : PatchRecord) : Type 0 where
   pub removes : IsRising triple_cmp item.removes
   pub readable : AllByRecursion HasReadableTerms (item.adds ++ item.removes)
   pub apart : (triple : Triple) → has triple_cmp triple item.adds ≡ true → has triple_cmp triple item.removes ≡ false
+
+-- the line of a triple by its texts: each with a space after it, then `.` and the line feed
+abbrev pub text_line : TripleText → List ℕ
+text_line texts = (texts.subject.now ++ 32 ∷ []) ++ (texts.predicate.now ++ 32 ∷ []) ++ (texts.object.now ++ 32 ∷ []) ++ 46 ∷ 10 ∷ []

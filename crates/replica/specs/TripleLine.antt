@@ -2,6 +2,9 @@
 use Rattle.std.specs.Prelude.{◌≡◌, ℕ, List, [], ◌∷◌, ◌++◌}
 use Rattle.std.specs.Str.{IsUtf8}
 use Rattle.rdf_term.specs.{declared.term.Term.Term, declared.triple.Triple.Triple, Fit.IsFitAndShort, Text.term_text}
+use Rattle.triple_sink.specs.TermRef.{meant_triple}
+use Rattle.triple_texts.specs.declared.triple_text.TripleText.{TripleText}
+use Rattle.replica.specs.declared.triple_line.TripleRef.{TripleRef}
 
 -- the term is fit and short, and its canonical text is UTF-8, as that of each term in memory is
 pub record IsReadable (term : Term) : Type 0 where
@@ -29,7 +32,11 @@ pub record IsTripleLine (line : List ℕ) (triple : Triple) : Type 0 where
   pub readable : HasReadableTerms triple
 
 -- these are the canonical texts of the triple's terms
-pub record AreTermTexts (subject predicate object : List ℕ) (triple : Triple) : Type 0 where
-  pub subject_is : IsTermText subject triple.subject
-  pub predicate_is : IsTermText predicate triple.predicate
-  pub object_is : IsTermText object triple.object
+pub record AreTermTexts (texts : TripleText) (triple : Triple) : Type 0 where
+  pub subject_is : IsTermText texts.subject.now triple.subject
+  pub predicate_is : IsTermText texts.predicate.now triple.predicate
+  pub object_is : IsTermText texts.object.now triple.object
+
+-- the triple that borrowed terms stand for
+abbrev pub borrowed : TripleRef → Triple
+borrowed triple = meant_triple triple.subject triple.predicate triple.object

@@ -1,8 +1,9 @@
 //! Records of patches: their texts, a reader of them, and a replica that follows a producer's store by them.
 //!
-//! `record` has a record and the writing of it, `head` its first line, and `triple_line` a triple by the line that it has in a
-//! record: `term_end` finds where a term ends there, and `plain_term` reads one that has no escape. `reader` takes lines and gives records.
-//! `replica` keeps records until it is their turn; `applying` says what one changes of the triples that are stored.
+//! `record` has a record and the writing of it, `head` its first line, and `triple_line` the texts of a triple in the line that it has in
+//! a record: `term_end` finds where a term ends there, and `plain_term` borrows one that has no escape. `reader` takes lines and gives
+//! records. `replica` keeps records until it is their turn; `applying` changes by one which triples are stored, and `reading_back` reads
+//! the triples of one into memory of their own.
 //! `laws` has what holds of the definitions themselves.
 #![tactic(auto)]
 
@@ -11,6 +12,7 @@ mod head;
 mod laws;
 mod plain_term;
 mod reader;
+mod reading_back;
 mod record;
 mod replica;
 mod term_end;

@@ -1,12 +1,13 @@
-// Terms whose canonical texts have no escape, read at once.
+// Terms whose canonical texts have no escape, which borrow these.
 
-ghost use Rattle.std.specs.Prelude.{◌≡◌, ◌≤◌, ◌++◌, ◌∷◌, [], IfOk, IfSome, false, length, position, take, true};
+ghost use Rattle.std.specs.Prelude.{◌≡◌, ◌≤◌, ◌++◌, ◌∷◌, [], IfSome, false, length, position, take, true};
 ghost use Rattle.std.specs.{List.list_any, Str.IsUtf8, Str.bytes_eq};
 ghost use Rattle.rdf_term.specs.{Fit.xsd_string, Grammar.is_iri, Grammar.is_tag, Text.is_escaped};
+ghost use Rattle.triple_sink.specs.TermRef.{meant};
 ghost use Rattle.replica.specs.PlainTerm.{IsFitText};
 
-use rdf_term::{OutOfMemory, Term, Text, is_iri, is_tag};
-use std::alloc::Global;
+use rdf_term::{is_iri, is_tag};
+use triple_sink::TermRef;
 
 // The datatype of plain literals, which their canonical texts don't name.
 const XSD_STRING: &str = "http://www.w3.org/2001/XMLSchema#string";
@@ -19,24 +20,22 @@ struct LiteralParts<'a> {
 }
 
 /// The fit term whose canonical text these bytes are, if nothing in it is written by an escape. `None` says nothing of the bytes.
-pub fn plain_term(alloc: Global, bytes: &[u8]) -> Result<Option<Term>, OutOfMemory>
-    ensures { IfOk result (λ found. IfSome found (IsFitText bytes.now)) }
+pub fn plain_term(bytes: &[u8]) -> Option<TermRef<'_>>
+    ensures { IfSome result (λ found. IsFitText bytes.now (meant found)) }
 {
     match bytes {
-        [b'<', rest @ ..] => iri_term(alloc, rest),
-        [b'"', rest @ ..] => literal_term(alloc, rest),
-        _ => Ok(None),
+        [b'<', rest @ ..] => iri_term(rest),
+        [b'"', rest @ ..] => literal_term(rest),
+        _ => None,
     }
 }
 
 // The IRI behind whose opening bracket these bytes stand.
-fn iri_term(alloc: Global, rest: &[u8]) -> Result<Option<Term>, OutOfMemory>
-    ensures { IfOk result (λ found. IfSome found (IsFitText (60 ∷ rest.now))) }
+fn iri_term(rest: &[u8]) -> Option<TermRef<'_>>
+    ensures { IfSome result (λ found. IsFitText (60 ∷ rest.now) (meant found)) }
 {
-    match iri_in(rest) {
-        Some(iri) => Ok(Some(Term::Iri(Text::new(alloc, iri)?))),
-        None => Ok(None),
-    }
+    let iri = iri_in(rest)?;
+    Some(TermRef::Iri(iri))
 }
 
 // The IRI behind which its closing bracket stands.
@@ -51,17 +50,15 @@ fn iri_in(rest: &[u8]) -> Option<&str>
 }
 
 // The literal behind whose opening quote these bytes stand.
-fn literal_term(alloc: Global, rest: &[u8]) -> Result<Option<Term>, OutOfMemory>
-    ensures { IfOk result (λ found. IfSome found (IsFitText (34 ∷ rest.now))) }
+fn literal_term(rest: &[u8]) -> Option<TermRef<'_>>
+    ensures { IfSome result (λ found. IsFitText (34 ∷ rest.now) (meant found)) }
 {
-    let Some(parts) = literal_parts(rest) else {
-        return Ok(None);
-    };
+    let parts = literal_parts(rest)?;
     match parts.suffix {
-        [] => Ok(Some(Term::Plain(Text::new(alloc, parts.content)?))),
-        [b'@', tag @ ..] => tagged_term(alloc, parts.content, tag),
-        [b'^', b'^', b'<', datatype @ ..] => typed_term(alloc, parts.content, datatype),
-        _ => Ok(None),
+        [] => Some(TermRef::Plain(parts.content)),
+        [b'@', tag @ ..] => tagged_term(parts.content, tag),
+        [b'^', b'^', b'<', datatype @ ..] => typed_term(parts.content, datatype),
+        _ => None,
     }
 }
 
@@ -82,21 +79,12 @@ fn literal_parts(rest: &[u8]) -> Option<LiteralParts<'_>>
 }
 
 // The literal with this tag, where it is one.
-fn tagged_term(alloc: Global, content: &str, tag: &[u8]) -> Result<Option<Term>, OutOfMemory>
+fn tagged_term<'a>(content: &'a str, tag: &'a [u8]) -> Option<TermRef<'a>>
     requires { list_any is_escaped content.now ≡ false }
-    ensures { IfOk result (λ found. IfSome found (IsFitText (34 ∷ (content.now ++ 34 ∷ 64 ∷ tag.now)))) }
+    ensures { IfSome result (λ found. IsFitText (34 ∷ (content.now ++ 34 ∷ 64 ∷ tag.now)) (meant found)) }
 {
-    let Some(tag) = tag_in(tag) else {
-        return Ok(None);
-    };
-    let content = Text::new(alloc, content)?;
-    match Text::new(alloc, tag) {
-        Ok(tag) => Ok(Some(Term::Lang(content, tag))),
-        Err(refused) => {
-            drop(content);
-            Err(refused)
-        }
-    }
+    let tag = tag_in(tag)?;
+    Some(TermRef::Lang(content, tag))
 }
 
 // The tag that these bytes are.
@@ -107,21 +95,12 @@ fn tag_in(bytes: &[u8]) -> Option<&str>
 }
 
 // The literal with this datatype, behind whose opening bracket the bytes stand.
-fn typed_term(alloc: Global, content: &str, rest: &[u8]) -> Result<Option<Term>, OutOfMemory>
+fn typed_term<'a>(content: &'a str, rest: &'a [u8]) -> Option<TermRef<'a>>
     requires { list_any is_escaped content.now ≡ false }
-    ensures { IfOk result (λ found. IfSome found (IsFitText (34 ∷ (content.now ++ 34 ∷ 94 ∷ 94 ∷ 60 ∷ rest.now)))) }
+    ensures { IfSome result (λ found. IsFitText (34 ∷ (content.now ++ 34 ∷ 94 ∷ 94 ∷ 60 ∷ rest.now)) (meant found)) }
 {
-    let Some(datatype) = datatype_in(rest) else {
-        return Ok(None);
-    };
-    let content = Text::new(alloc, content)?;
-    match Text::new(alloc, datatype) {
-        Ok(datatype) => Ok(Some(Term::Typed(content, datatype))),
-        Err(refused) => {
-            drop(content);
-            Err(refused)
-        }
-    }
+    let datatype = datatype_in(rest)?;
+    Some(TermRef::Typed(content, datatype))
 }
 
 // The datatype behind which its closing bracket stands, if it isn't that of plain literals.

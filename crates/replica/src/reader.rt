@@ -1,19 +1,24 @@
 // Records, read line by line.
 
-ghost use Rattle.std.specs.Prelude.{◌≡◌, ◌↔◌, ◌++◌, ◌∷◌, [], IfErr, IfOk, IfSome, IsErr, IsTrue, MatchOption, None, Some, false, true, ◌⊎◌};
+ghost use Rattle.std.specs.Prelude.{◌≡◌, ◌↔◌, ◌≤◌, ◌++◌, ◌∷◌, [], ℕ, IfErr, IfOk, IfSome, IsErr, IsTrue, MatchOption, None, OnOk, Some, false, length, true, ◌⊎◌};
+ghost use Rattle.std.specs.Ordering.{ordering_then};
 ghost use Rattle.sorted_sets.specs.Rising.{IsRising, has};
-ghost use Rattle.rdf_term.specs.{declared.triple.Triple.Triple as TheTriple, Order.triple_cmp};
+ghost use Rattle.rdf_term.specs.{declared.triple.Triple.Triple as TheTriple, Order.bytes_cmp, Order.triple_cmp};
+ghost use Rattle.triple_texts.specs.Texts.{IsTextOf};
 ghost use Rattle.replica.specs.declared.reader.PatchFault.TheVariants.{Order as OutOfOrder, OutOfMemory as PatchOutOfMemory};
-ghost use Rattle.replica.specs.Reader.{Grows, HasCause, IsPart, IsUnfinished, TakesLine, given, may_come_next, is_adding, is_next, all_read, left, lines_read, opened, patch_read, with_triple};
-ghost use Rattle.replica.specs.{Record.IsSound, Record.record_lines, TripleLine.HasReadableTerms};
+ghost use Rattle.replica.specs.Reader.{Grows, HasCause, IsPart, IsUnfinished, TakesLine, GrowsBy, IsCauseBy, given, may_come_next, text_cmp, is_adding, is_next, all_read, left, lines_read, opened, patch_read, with_triple};
+ghost use Rattle.replica.specs.{Record.IsSound, Record.record_lines, TripleLine.AreTermTexts, TripleLine.borrowed};
 
 use crate::head::Head;
 use crate::record::PatchRecord;
-use crate::triple_line::read_triple;
-use rdf_term::{List, OutOfMemory, Triple, TripleSet};
+use crate::triple_line::{TripleRef, line_texts, plain_triple, read_texts};
+use rdf_term::OutOfMemory;
 use std::alloc::Global;
+use std::cmp::Ordering;
 use std::marker::Model;
 use thiserror::Error;
+use triple_sink::{TermRef, TripleSink};
+use triple_texts::{TripleText, TripleTexts};
 
 /// Why a line is refused: the first of these that applies.
 #[derive(Clone, Copy, Debug, PartialEq, Eq, Error)]
@@ -36,8 +41,8 @@ pub enum PatchFault {
 #[derive(Drop)]
 struct Begun {
     head: Head,
-    adds: List<Triple>,
-    removes: List<Triple>,
+    adds: TripleTexts,
+    removes: TripleTexts,
 }
 
 /// Reads records line by line. Contracts see what was read of a record that lacks lines.
@@ -133,24 +138,55 @@ fn open(alloc: Global, line: &[u8]) -> Result<Begun, PatchFault>
     match Head::read(alloc, line) {
         Ok(Some(head)) => Ok(Begun {
             head,
-            adds: List::new(alloc),
-            removes: List::new(alloc),
+            adds: TripleTexts::new(alloc),
+            removes: TripleTexts::new(alloc),
         }),
         Ok(None) => Err(PatchFault::Head),
         Err(OutOfMemory) => Err(PatchFault::OutOfMemory),
     }
 }
 
-// The record with the triple of the line.
+// The record with the triple of the line. Where nothing in its terms is written by an escape, it takes memory for the record alone.
 fn extend(alloc: Global, begun: Begun, line: &[u8]) -> Result<Begun, PatchFault>
     requires { IsUnfinished begun }
     ensures ok { IfOk result (λ next. Grows (Some begun) line.now next × IsPart next) }
     ensures err { IfErr result (λ fault. HasCause fault (Some begun) line.now) }
 {
-    match read_triple(alloc, line) {
-        Ok(Some(triple)) => begun.follow(triple),
-        Ok(None) => Err(PatchFault::Triple),
-        Err(OutOfMemory) => Err(PatchFault::OutOfMemory),
+    let Some(texts) = line_texts(line) else {
+        drop(begun);
+        return Err(PatchFault::Triple);
+    };
+    match plain_triple(texts) {
+        Some(triple) => begun.follow(alloc, texts, triple),
+        None => extend_by_terms(alloc, begun, texts),
+    }
+}
+
+// The same by the texts of the line's terms, which are read into memory of their own.
+fn extend_by_terms(alloc: Global, begun: Begun, texts: TripleText<'_>) -> Result<Begun, PatchFault>
+    requires { IsUnfinished begun }
+    ensures ok { IfOk result (λ next. GrowsBy begun texts.entry next × IsPart next) }
+    ensures err { IfErr result (λ fault. IsCauseBy fault begun texts.entry) }
+{
+    match read_texts(alloc, texts) {
+        Ok(Some(triple)) => {
+            let borrowed = TripleRef {
+                subject: TermRef::of(&triple.subject),
+                predicate: TermRef::of(&triple.predicate),
+                object: TermRef::of(&triple.object),
+            };
+            let grown = begun.follow(alloc, texts, borrowed);
+            drop(triple);
+            grown
+        }
+        Ok(None) => {
+            drop(begun);
+            Err(PatchFault::Triple)
+        }
+        Err(OutOfMemory) => {
+            drop(begun);
+            Err(PatchFault::OutOfMemory)
+        }
     }
 }
 
@@ -169,38 +205,43 @@ impl Begun {
         self.adds.len() as u64 == self.head.adds && self.removes.len() as u64 == self.head.removes
     }
 
-    // Whether the triple may follow.
+    // Whether the triple with these texts may follow.
     #[tactic(auto, unfolding(crate::specs::Reader::may_come_next))]
-    fn may_come_next(&self, triple: &Triple) -> bool
+    fn may_come_next(&self, texts: &TripleText<'_>) -> bool
         requires { IsRising triple_cmp self.now.adds }
-        ensures { result ≡ may_come_next self.now triple.now }
+        ensures { (triple : TheTriple) → IsTextOf texts.now triple → result ≡ may_come_next self.now triple }
     {
         if self.is_adding() {
-            is_next(self.adds.as_slice(), triple)
+            is_next(&self.adds, texts)
         } else {
-            is_next(self.removes.as_slice(), triple) && !has_triple(self.adds.as_slice(), triple)
+            is_next(&self.removes, texts) && !has_triple(&self.adds, texts)
         }
     }
 
-    // The record with one more triple, if it may follow.
-    fn follow(self, triple: Triple) -> Result<Begun, PatchFault>
+    // The record with one more triple, whose texts these are, if it may follow.
+    fn follow(
+        self,
+        alloc: Global,
+        texts: TripleText<'_>,
+        triple: TripleRef<'_>,
+    ) -> Result<Begun, PatchFault>
         requires unfinished { IsUnfinished self }
-        requires readable { HasReadableTerms triple }
-        ensures ok { IfOk result (λ next. (may_come_next self triple ≡ true) × (next ≡ with_triple self triple) × IsPart next) }
-        ensures err { IfErr result (λ fault. (fault ≡ PatchOutOfMemory) ⊎ ((fault ≡ OutOfOrder) × (may_come_next self triple ≡ false))) }
+        requires texts { AreTermTexts texts (borrowed triple) }
+        ensures ok { IfOk result (λ next. (may_come_next self (borrowed triple.entry) ≡ true) × (next ≡ with_triple self (borrowed triple.entry)) × IsPart next) }
+        ensures err { IfErr result (λ fault. (fault ≡ PatchOutOfMemory) ⊎ ((fault ≡ OutOfOrder) × (may_come_next self (borrowed triple.entry) ≡ false))) }
     {
-        if self.may_come_next(&triple) {
-            self.with_triple(triple)
+        if self.may_come_next(&texts) {
+            self.with_triple(alloc, triple)
         } else {
-            drop(triple);
+            drop(self);
             Err(PatchFault::Order)
         }
     }
 
     // The record with one more triple.
     #[tactic(auto, unfolding(crate::specs::Reader::with_triple))]
-    fn with_triple(self, triple: Triple) -> Result<Begun, PatchFault>
-        ensures ok { IfOk result (λ next. next ≡ with_triple self triple) }
+    fn with_triple(self, alloc: Global, triple: TripleRef<'_>) -> Result<Begun, PatchFault>
+        ensures ok { IfOk result (λ next. next ≡ with_triple self (borrowed triple.entry)) }
         ensures err { IfErr result (λ fault. fault ≡ PatchOutOfMemory) }
     {
         let Begun {
@@ -208,25 +249,27 @@ impl Begun {
             mut adds,
             mut removes,
         } = self;
-        let pushed = if (adds.len() as u64) < head.adds {
-            adds.push(triple)
+        let put = if (adds.len() as u64) < head.adds {
+            put_last(alloc, triple, &mut adds)
         } else {
-            removes.push(triple)
+            put_last(alloc, triple, &mut removes)
         };
-        match pushed {
+        match put {
             Ok(()) => Ok(Begun {
                 head,
                 adds,
                 removes,
             }),
-            Err(OutOfMemory) => Err(PatchFault::OutOfMemory),
+            Err(OutOfMemory) => {
+                drop(adds);
+                drop(removes);
+                Err(PatchFault::OutOfMemory)
+            }
         }
     }
 
     // The record of what was read.
     fn into_record(self) -> PatchRecord
-        requires adds { IsRising triple_cmp self.adds }
-        requires removes { IsRising triple_cmp self.removes }
         ensures { result ≡ patch_read self }
     {
         let Begun {
@@ -236,26 +279,68 @@ impl Begun {
         } = self;
         PatchRecord {
             number: head.number,
-            adds: TripleSet::from_rising(adds),
-            removes: TripleSet::from_rising(removes),
+            adds,
+            removes,
         }
     }
 }
 
-// Whether the triple is greater than the last one of the list.
-fn is_next(triples: &[Triple], triple: &Triple) -> bool
-    ensures { result ≡ is_next triples.now triple.now }
+// Puts the triple at the end.
+fn put_last(
+    alloc: Global,
+    triple: TripleRef<'_>,
+    triples: &mut TripleTexts,
+) -> Result<(), OutOfMemory>
+    ensures { OnOk result (triples.new ≡ triples.old ++ borrowed triple.entry ∷ []) }
 {
-    match triples.last() {
-        Some(last) => last.cmp(triple).is_lt(),
-        None => true,
+    triples.emit(alloc, &triple.subject, &triple.predicate, &triple.object)
+}
+
+// Whether the triple with these texts is greater than the last one.
+fn is_next(triples: &TripleTexts, texts: &TripleText<'_>) -> bool
+    ensures { (triple : TheTriple) → IsTextOf texts.now triple → result ≡ is_next triples.now triple }
+{
+    let count = triples.len();
+    if count == 0 {
+        return true;
+    }
+    compare(&triples.get(count - 1), texts).is_lt()
+}
+
+// Whether the triple with these texts is one of them, by binary search.
+fn has_triple(triples: &TripleTexts, texts: &TripleText<'_>) -> bool
+    requires { IsRising triple_cmp triples.now }
+    ensures { (triple : TheTriple) → IsTextOf texts.now triple → result ≡ has triple_cmp triple triples.now }
+{
+    let mut low = 0;
+    let mut high = triples.len();
+    while low < high {
+        let middle = low + (high - low) / 2;
+        match compare(&triples.get(middle), texts) {
+            Ordering::Less => low = middle + 1,
+            Ordering::Equal => return true,
+            Ordering::Greater => high = middle,
+        }
+    }
+    false
+}
+
+// The order of two triples by their texts.
+fn compare(a: &TripleText<'_>, b: &TripleText<'_>) -> Ordering
+    ensures { result ≡ text_cmp a.now b.now }
+{
+    match a.subject.cmp(b.subject) {
+        Ordering::Equal => compare_rest(a, b),
+        decided => decided,
     }
 }
 
-// Whether the list has the triple, by binary search.
-fn has_triple(triples: &[Triple], triple: &Triple) -> bool
-    requires { IsRising triple_cmp triples.now }
-    ensures { result ≡ has triple_cmp triple.now triples.now }
+// The order of the predicates, then of the objects.
+fn compare_rest(a: &TripleText<'_>, b: &TripleText<'_>) -> Ordering
+    ensures { result ≡ ordering_then (bytes_cmp a.now.predicate.now b.now.predicate.now) (bytes_cmp a.now.object.now b.now.object.now) }
 {
-    triples.binary_search(triple).is_ok()
+    match a.predicate.cmp(b.predicate) {
+        Ordering::Equal => a.object.cmp(b.object),
+        decided => decided,
+    }
 }

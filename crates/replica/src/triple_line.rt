@@ -1,40 +1,85 @@
-// A triple by the line that it has in a record.
+// The texts of a triple's terms in the line that it has in a record, and the terms that they are.
 
-ghost use Rattle.std.specs.Prelude.{◌≡◌, ◌↔◌, ◌≤◌, ◌++◌, ◌∷◌, [], IfOk, IfSome, IsTrue, MatchOption, Some, length};
+ghost use Rattle.std.specs.Prelude.{◌≡◌, ◌↔◌, ◌≤◌, ◌++◌, ◌∷◌, [], IfNone, IfOk, IfSome, IsTrue, MatchOption, Some, length};
 ghost use Rattle.rdf_term.specs.{declared.term.Term.Term as TheTerm, declared.triple.Triple.Triple as TheTriple, Text.term_text};
-ghost use Rattle.replica.specs.TripleLine.{AreTermTexts, IsTermText, IsTripleLine};
+ghost use Rattle.triple_sink.specs.TermRef.{meant};
+ghost use Rattle.replica.specs.TripleLine.{AreTermTexts, IsTermText, IsTripleLine, borrowed};
 
 use crate::plain_term::plain_term;
 use crate::term_end::split_term;
 use rdf_term::{OutOfMemory, Term, Triple, write_term};
 use std::alloc::Global;
 use term_reading::read_term;
+use triple_sink::TermRef;
+use triple_texts::TripleText;
 
 // The most bytes that the canonical text of a term may have.
 const LONGEST_TERM: usize = 33_554_432;
 
-// The texts of the three terms.
-#[derive(Drop)]
-struct TermTexts<'a> {
-    subject: &'a [u8],
-    predicate: &'a [u8],
-    object: &'a [u8],
+/// A triple that borrows the texts of its terms.
+#[derive(Clone, Copy)]
+pub struct TripleRef<'a> {
+    pub subject: TermRef<'a>,
+    pub predicate: TermRef<'a>,
+    pub object: TermRef<'a>,
 }
 
-/// The triple of a line without its line feed. `None` if the line isn't the canonical text of a triple of fit terms that have at most 32
-/// MiB each.
-pub fn read_triple(alloc: Global, line: &[u8]) -> Result<Option<Triple>, OutOfMemory>
-    ensures { IfOk result (λ found. (triple : TheTriple) → (found ≡ Some triple) ↔ IsTripleLine line.now triple) }
+/// The texts of a line's terms, without its line feed. `None` if it isn't the line of a triple. If it is one, these are the texts of its
+/// terms.
+pub fn line_texts(line: &[u8]) -> Option<TripleText<'_>>
+    ensures some { IfSome result (λ texts. (triple : TheTriple) → IsTripleLine line.now triple ↔ AreTermTexts texts triple) }
+    ensures none { IfNone result ((triple : TheTriple) → IsTripleLine line.now triple → ⊥) }
 {
-    match split_line(line) {
-        Some(texts) => read_texts(alloc, texts),
-        None => Ok(None),
+    split_line(line)
+}
+
+// The same, by the places of the line's spaces.
+fn split_line(line: &[u8]) -> Option<TripleText<'_>>
+    ensures parts { IfSome result (λ texts. line.now ≡ texts.subject.now ++ 32 ∷ (texts.predicate.now ++ 32 ∷ (texts.object.now ++ 32 ∷ 46 ∷ []))) }
+    ensures whole { (triple : TheTriple) → IsTripleLine line.now triple → MatchOption result ⊥ (λ texts.
+        (texts.subject.now ≡ term_text triple.subject) × (texts.predicate.now ≡ term_text triple.predicate) × (texts.object.now ≡ term_text triple.object)) }
+{
+    let (subject, rest) = split_term(line)?;
+    let (predicate, rest) = split_term(rest)?;
+    let (object, rest) = split_term(rest)?;
+    if rest != b".".as_slice() {
+        return None;
+    }
+    Some(TripleText {
+        subject,
+        predicate,
+        object,
+    })
+}
+
+/// The triple with these texts, if nothing in them is written by an escape. It takes no memory. `None` says nothing of the texts.
+pub fn plain_triple(texts: TripleText<'_>) -> Option<TripleRef<'_>>
+    ensures { IfSome result (λ found. AreTermTexts texts.entry (borrowed found)) }
+{
+    let subject = short_term(texts.subject)?;
+    let predicate = short_term(texts.predicate)?;
+    let object = short_term(texts.object)?;
+    Some(TripleRef {
+        subject,
+        predicate,
+        object,
+    })
+}
+
+// The term with this text, if nothing in it is written by an escape and it isn't too long.
+fn short_term(bytes: &[u8]) -> Option<TermRef<'_>>
+    ensures { IfSome result (λ found. IsTermText bytes.now (meant found)) }
+{
+    if bytes.len() > LONGEST_TERM {
+        None
+    } else {
+        plain_term(bytes)
     }
 }
 
-// The triple of the three texts.
-fn read_texts(alloc: Global, texts: TermTexts<'_>) -> Result<Option<Triple>, OutOfMemory>
-    ensures { IfOk result (λ found. (triple : TheTriple) → (found ≡ Some triple) ↔ AreTermTexts texts.entry.subject.now texts.entry.predicate.now texts.entry.object.now triple) }
+/// The triple with these texts, in memory of its own. `None` if they aren't the canonical texts of fit terms that have at most 32 MiB each.
+pub fn read_texts(alloc: Global, texts: TripleText<'_>) -> Result<Option<Triple>, OutOfMemory>
+    ensures { IfOk result (λ found. (triple : TheTriple) → (found ≡ Some triple) ↔ AreTermTexts texts.entry triple) }
 {
     let subject = canonical_term(alloc, texts.subject)?;
     let Ok(predicate) = canonical_term(alloc, texts.predicate) else {
@@ -75,39 +120,17 @@ fn triple_of(subject: Option<Term>, predicate: Option<Term>, object: Option<Term
     })
 }
 
-// The texts of a line's terms, where it is a triple's.
-fn split_line(line: &[u8]) -> Option<TermTexts<'_>>
-    ensures parts { IfSome result (λ texts. line.now ≡ texts.subject.now ++ 32 ∷ (texts.predicate.now ++ 32 ∷ (texts.object.now ++ 32 ∷ 46 ∷ []))) }
-    ensures whole { (triple : TheTriple) → IsTripleLine line.now triple → MatchOption result ⊥ (λ texts.
-        (texts.subject.now ≡ term_text triple.subject) × (texts.predicate.now ≡ term_text triple.predicate) × (texts.object.now ≡ term_text triple.object)) }
-{
-    let (subject, rest) = split_term(line)?;
-    let (predicate, rest) = split_term(rest)?;
-    let (object, rest) = split_term(rest)?;
-    if rest != b".".as_slice() {
-        return None;
-    }
-    Some(TermTexts {
-        subject,
-        predicate,
-        object,
-    })
-}
-
-// The term whose canonical text this is, where it is fit and the text isn't too long.
+// The term whose canonical text this is, where it is fit and the text isn't too long: by reading it and writing its text.
 fn canonical_term(alloc: Global, bytes: &[u8]) -> Result<Option<Term>, OutOfMemory>
     ensures { IfOk result (λ found. (term : TheTerm) → (found ≡ Some term) ↔ IsTermText bytes.now term) }
 {
     if bytes.len() > LONGEST_TERM {
         return Ok(None);
     }
-    match plain_term(alloc, bytes)? {
-        Some(term) => Ok(Some(term)),
-        None => any_term(alloc, bytes),
-    }
+    any_term(alloc, bytes)
 }
 
-// The same, by reading the term and writing its text.
+// The same for a text that isn't too long.
 fn any_term(alloc: Global, bytes: &[u8]) -> Result<Option<Term>, OutOfMemory>
     requires { length bytes.now ≤ 33_554_432 }
     ensures { IfOk result (λ found. (term : TheTerm) → (found ≡ Some term) ↔ IsTermText bytes.now term) }

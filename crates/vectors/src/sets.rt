@@ -17,9 +17,10 @@ pub(crate) fn set_of(alloc: Global, record: &str) -> Option<TripleSet>
     let mut reader = PatchReader::new(alloc);
     let read = read_record(&mut reader, record);
     drop(reader);
-    let PatchRecord { adds, removes, .. } = read?;
-    drop(removes);
-    Some(adds)
+    let item = read?;
+    let added = item.added(alloc);
+    drop(item);
+    added.ok()
 }
 
 // The first record of these lines.

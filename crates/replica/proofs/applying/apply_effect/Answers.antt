@@ -3,7 +3,7 @@ use Rattle.std.proofs.Common.{sym, subst}
 use Rattle.triple_patch.specs.declared.changes.Patch.{Patch}
 use Rattle.triple_store.specs.Updates.{IsPatched, MayCome, MayGo}
 use Rattle.replica.proofs.Applied.{full_after, keys_after, may_come, may_go, once_after, within_after}
-use Rattle.replica.proofs.applying.apply.Goals as goal
+use Rattle.replica.proofs.applying.apply_effect.Goals as goal
 
 pub apply-requires-clause-may_come : goal.apply-requires-clause-may_come
 apply-requires-clause-may_come c =
