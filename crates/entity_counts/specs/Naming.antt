@@ -1,5 +1,5 @@
 -- The entities that are counted, each with the number of the pages that name it.
-use Rattle.std.specs.Prelude.{ℕ, Bool, cond, List, count_by, unwrap_or}
+use Rattle.std.specs.Prelude.{ℕ, ◌==◌, Bool, cond, List, count_by, filter, unwrap_or}
 use Rattle.std.specs.Coded.{Coded, coded_ℕ}
 use Rattle.std.specs.FinMap as map
 use Rattle.std.specs.Ordering.{eq_by_cmp}
@@ -33,3 +33,7 @@ counted_in names x = cond (is_counted names x) names (map.insert names x 0)
 -- how many times an entity stands in a list
 abbrev pub times_in : EntityId → List EntityId → ℕ
 times_in x ids = count_by (eq_by_cmp entity_cmp x) ids
+
+-- the entities that are counted though no page names them, in rising order
+abbrev pub unnamed_in : Naming → List EntityId
+unnamed_in names = filter (λ x. pages_naming names x == 0) (map.keys names)

@@ -1,11 +1,12 @@
 // How many pages name each entity that is counted.
 
-ghost use Rattle.std.specs.Prelude.{◌≡◌, ◌+◌, ◌-◌, ◌<◌, true, List, OnErr, OnOk};
+ghost use Rattle.std.specs.Prelude.{◌≡◌, ◌+◌, ◌-◌, ◌<◌, true, IfOk, OnErr, OnOk};
+ghost use Rattle.std.specs.{BTreeMap.IsOrdered, BTreeMap.keys};
 ghost use Rattle.std.specs.FinMap as map;
 ghost use Rattle.std.specs.Ordering.{eq_by_cmp};
 ghost use Rattle.sorted_sets.specs.{Counting.one_if, Rising.has};
 ghost use Rattle.entity_model.specs.{EntityId.entity_cmp, declared.id.EntityId.EntityId as TheId};
-ghost use Rattle.entity_counts.specs.Naming.{counted_in, is_counted, naming_of, pages_naming, times_in};
+ghost use Rattle.entity_counts.specs.Naming.{counted_in, is_counted, naming_of, pages_naming, times_in, unnamed_in};
 
 use base::OutOfMemory;
 use entity_model::EntityId;
@@ -54,6 +55,15 @@ impl EntityCounts {
         self.pages.get(&id).copied().unwrap_or(0)
     }
 
+    /// The entities that are counted though no page names them, in rising order.
+    pub fn unnamed(&self, alloc: Global) -> Result<Vec<EntityId>, OutOfMemory>
+        ensures { IfOk result (λ ids. ids.items ≡ unnamed_in self.now) }
+    {
+        let mut ids = keys_of(alloc, &self.pages)?;
+        ids.retain(|id| self.pages_naming(*id) == 0);
+        Ok(ids)
+    }
+
     /// Counts the entity, which no page names yet, unless it is counted. After `OutOfMemory` nothing has changed.
     pub fn count_in(&mut self, id: EntityId) -> Result<(), OutOfMemory>
         ensures ok { OnOk result (self.new ≡ counted_in self.old id) }
@@ -91,6 +101,15 @@ impl EntityCounts {
     {
         lower_all(&mut self.pages, ids);
     }
+}
+
+// The entities that are counted, in rising order.
+fn keys_of(alloc: Global, pages: &BTreeMap<EntityId, u64>) -> Result<Vec<EntityId>, OutOfMemory>
+    ensures keys { IfOk result (λ ids. ids.items ≡ keys pages.now) }
+    ensures ordered { IsOrdered entity_cmp pages.now }
+{
+    let ids = pages.keys().copied().collect(alloc)?;
+    Ok(ids)
 }
 
 // One page more for each of the entities.

@@ -1,14 +1,15 @@
 -- Entities that no page names are counted no longer, as far as there is memory.
-use Rattle.std.proofs.Common.{◌≡◌, ◌⊎◌, inl, inr, ℕ, zero, suc, ◌<◌, Bool, true, false, ◌||◌, List, [], ◌∷◌, ◌++◌, Result, Ok, Err, refl, sym, ◌∙◌, ap, ⊎_elim, arith}
-use Rattle.std.specs.Prelude.{OnErr, OnOk}
+use Rattle.std.proofs.Common.{◌≡◌, ◌⊎◌, inl, inr, ℕ, zero, suc, ◌<◌, Bool, true, false, ◌&&◌, ◌||◌, List, [], ◌∷◌, ◌++◌, Result, Ok, Err}
+use Rattle.std.proofs.Common.{refl, sym, ◌∙◌, ap, ⊎_elim, arith}
+use Rattle.std.specs.Prelude.{◌==◌, OnErr, OnOk}
 use Rattle.std.specs.FinMap as map
 use Rattle.sorted_sets.specs.Rising.{has}
-use Rattle.sorted_sets.proofs.{Bools.and_right, Bools.clash, Bools.or_none, Rising.has-append}
+use Rattle.sorted_sets.proofs.{Bools.and_right, Bools.clash, Bools.or_none, Filtering.has-filter, Rising.has-append}
 use Rattle.rdf_term.specs.declared.triple.Triple.{Triple}
-use Rattle.entity_model.specs.{declared.id.EntityId.EntityId, EntityId.entity_cmp}
+use Rattle.entity_model.specs.{declared.id.EntityId.EntityId, EntityId.entity_cmp, EntityId.entity_cmp_same}
 use Rattle.shared_triples.specs.Lean.{strangers}
 use Rattle.shared_triples.proofs.Holding.{id_tells}
-use Rattle.entity_counts.specs.Naming.{Naming, is_counted, pages_naming}
+use Rattle.entity_counts.specs.Naming.{Naming, is_counted, pages_naming, unnamed_in}
 use Rattle.lean_holdings.specs.{Changing.counted_with, Holding.counted_by}
 use Rattle.lean_holdings.proofs.GoingOut.{fewer, gone_from, same_named}
 
@@ -78,3 +79,16 @@ pub among_with : (counted names : List EntityId) (x y : EntityId) (triples : Lis
     → (has entity_cmp y names || has entity_cmp y counted) ≡ true → has entity_cmp y (counted_with counted x triples) ≡ true
 among_with counted names x y triples names_are there =
     has-append entity_cmp y (strangers x triples) counted ∙ ap (λ b. b || has entity_cmp y counted) (sym (names_are y)) ∙ there
+
+-- where all that no page names are counted no longer, what is counted is named
+pub named_alone : (start names : Naming) (ids : List EntityId) → ids ≡ unnamed_in start
+    → ((x : EntityId) → has entity_cmp x (counted_by names) ≡ true → has entity_cmp x (counted_by start) ≡ true)
+    → ((x : EntityId) → has entity_cmp x ids ≡ true → pages_naming start x ≡ 0 → has entity_cmp x (counted_by names) ≡ false)
+    → (x : EntityId) → has entity_cmp x (counted_by names) ≡ true → 0 < pages_naming start x
+named_alone start names ids listed fewer out x there = by (pages_naming start x) refl
+  where
+    by : (n : ℕ) → pages_naming start x ≡ n → 0 < n
+    by zero none = clash there (out x
+        (ap (has entity_cmp x) listed ∙ has-filter entity_cmp entity_cmp_same (λ y. pages_naming start y == 0) x (counted_by start)
+        ∙ (λ i. (none i == 0) && fewer x there i)) none)
+    by (suc n) some = omega arith

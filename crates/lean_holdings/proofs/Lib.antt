@@ -4,8 +4,10 @@ pub mod Going
 pub mod GoingOut
 pub mod InStep
 pub mod Moved
+pub mod Named
 pub mod Naming
 pub mod Needing
+pub mod Ordered
 pub mod Pieces
 pub mod Putting
 pub mod Results

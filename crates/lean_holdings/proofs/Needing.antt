@@ -20,7 +20,7 @@ use Rattle.fetched_pages.specs.Meaning.{meaning}
 use Rattle.shared_triples.specs.{Home.home_of, Lean.is_entity, Lean.is_own, Lean.stored_of, Lean.strangers, Lean.triples_of}
 use Rattle.shared_triples.proofs.{Holding.holder, Holding.in_union, Parting.both_true, Parting.has-stored}
 use Rattle.holders.specs.Roomed.{room_with}
-use Rattle.lean_holdings.specs.{Changing.counted_with, Changing.needs, Holding.counted_by, InStep.LeanState}
+use Rattle.lean_holdings.specs.{Changing.counted_with, Changing.needs, Changing.needs_where, Holding.counted_by, InStep.LeanState}
 use Rattle.holders.proofs.Rooming.{distinct_same}
 
 -- ---- terms
@@ -63,9 +63,9 @@ not_own true false d more is = absurd (true≢false (sym is))
 not_own false c d more is = refl
 
 module _ (c d : List EntityId) (m : Meaning Triple) (records : Records) (more : (y : EntityId) → has entity_cmp y c ≡ true → has entity_cmp y d ≡ true) where
-  more_stored : (y : EntityId) (t : Triple) → has triple_cmp t (triples_of (stored_of c m) records y) ≡ true → has triple_cmp t (triples_of (stored_of d m) records y) ≡ true
-  more_stored y t there =
-      let held : Option (Held Bytes) = (record_of records y).held in
+  held_more : (y : EntityId) (held : Option (Held Bytes)) (t : Triple) → has triple_cmp t (triples_held (stored_of c m) y held) ≡ true
+      → has triple_cmp t (triples_held (stored_of d m) y held) ≡ true
+  held_more y held t there =
       let parts : (not (is_own c y t) && has triple_cmp t (triples_held m y held)) ≡ true = sym (has-stored c m y held t) ∙ there in
       has-stored d m y held t
       ∙ both_true (not (is_own d y t)) _ (not_own (is_entity y (home_of t)) (has entity_cmp y c) (has entity_cmp y d) (more y) (and_left (not (is_own c y t)) _ parts))
@@ -74,7 +74,16 @@ module _ (c d : List EntityId) (m : Meaning Triple) (records : Records) (more : 
   union_more : (t : Triple) → has triple_cmp t (union triple_cmp (stored_of c m) records) ≡ true → has triple_cmp t (union triple_cmp (stored_of d m) records) ≡ true
   union_more t there =
       let found = holder (stored_of c m) records t (sym (has-union triple_cmp-total (stored_of c m) records t) ∙ there) in
-      in_union (stored_of d m) records found.0 t (more_stored found.0 t found.1)
+      in_union (stored_of d m) records found.0 t (held_more found.0 (record_of records found.0).held t found.1)
+
+  -- what is stored needs no less room
+  pub room_more : room_with (stored_of c m) records [] ≤ room_with (stored_of d m) records []
+  room_more =
+      let before : List Triple = union triple_cmp (stored_of c m) records in
+      let after : List Triple = union triple_cmp (stored_of d m) records in
+      fewer_terms (before ++ []) (after ++ []) (λ t there.
+      has-append triple_cmp t after [] ∙ or_left (has triple_cmp t after) _
+      (union_more t (sym (or_none (has triple_cmp t before)) ∙ sym (has-append triple_cmp t before []) ∙ there)))
 
   -- all of the page of a counted entity is stored
   counted_whole : (x : EntityId) (t : Triple) → has entity_cmp x d ≡ true → has triple_cmp t (triples_of m records x) ≡ true → has triple_cmp t (union triple_cmp (stored_of d m) records) ≡ true
@@ -95,6 +104,28 @@ module _ (c d : List EntityId) (m : Meaning Triple) (records : Records) (more : 
       (λ meant. counted_whole x t is meant)
       (one_of (has triple_cmp t before) (has triple_cmp t (triples_of m records x)) (sym (has-append triple_cmp t before (triples_of m records x)) ∙ there)))) in
       omega arith
+
+-- a step needs no less room where more entities are counted
+pub needs_more : (c d : List EntityId) (m n : Meaning Triple) (records : Records) (x : EntityId) (held : Option (Held Bytes))
+    → ((y : EntityId) → has entity_cmp y c ≡ true → has entity_cmp y d ≡ true)
+    → needs_where c m n records x held ≤ needs_where d m n records x held
+needs_more c d m n records x held more =
+    let names : List EntityId = strangers x (triples_held n x held) in
+    let c2 : List EntityId = counted_with c x (triples_held n x held) in
+    let d2 : List EntityId = counted_with d x (triples_held n x held) in
+    let all_more : (y : EntityId) → has entity_cmp y c2 ≡ true → has entity_cmp y d2 ≡ true = λ y there.
+    has-append entity_cmp y names d ∙ ⊎_elim (λ own. or_left (has entity_cmp y names) _ own)
+    (λ other. or_true (has entity_cmp y names) _ (more y other))
+    (one_of (has entity_cmp y names) (has entity_cmp y c) (sym (has-append entity_cmp y names c) ∙ there)) in
+    let before : List Triple = union triple_cmp (stored_of c2 m) records in
+    let after : List Triple = union triple_cmp (stored_of d2 m) records in
+    let come : List Triple = triples_held (stored_of c2 n) x held in
+    let come2 : List Triple = triples_held (stored_of d2 n) x held in
+    fewer_terms (before ++ come) (after ++ come2) (λ t there.
+    has-append triple_cmp t after come2 ∙ ⊎_elim
+    (λ stored. or_left (has triple_cmp t after) _ (union_more c2 d2 m records all_more t stored))
+    (λ comes. or_true (has triple_cmp t after) _ (held_more c2 d2 n records all_more x held t comes))
+    (one_of (has triple_cmp t before) (has triple_cmp t come) (sym (has-append triple_cmp t before come) ∙ there)))
 
 -- some of them are counted
 in_take : (y : EntityId) (n : ℕ) (ids : List EntityId) → has entity_cmp y (take n ids) ≡ true → has entity_cmp y ids ≡ true

@@ -1,10 +1,12 @@
 -- The record of an entity that holds what it held, or holds it with other keys.
-use Rattle.std.proofs.Common.{◌≡◌, ◌≢◌, ℕ, ◌+◌, ◌||◌, List, Bool, true, false, cond, Option, Some, None, is_some, unwrap_or, refl, sym, ◌∙◌, ap, subst, true≢false, ⊎_elim}
+use Rattle.std.proofs.Common.{◌≡◌, ◌≢◌, ℕ, ◌+◌, ◌||◌, List, Bool, true, false, cond, Option, Some, None, is_some, nat_lt, unwrap_or, refl}
+use Rattle.std.proofs.Common.{sym, ◌∙◌, ap, subst, true≢false, ⊎_elim, arith}
 use Rattle.std.specs.FinMap as map
 use Rattle.std.specs.{Cmp.eq_by_cmp_equiv, List.list_any, Ordering.eq_by_cmp}
 use Rattle.sorted_sets.specs.{Counting.one_if, Rising.has, Rising.sorted}
-use Rattle.sorted_sets.proofs.Rising.{has-sorted}
+use Rattle.sorted_sets.proofs.Rising.{has-sorted, same_rising}
 use Rattle.rdf_term.specs.{declared.triple.Triple.Triple, Order.triple_cmp, Order.triple_cmp-total}
+use Rattle.rdf_term.proofs.Texts.{triple_cmp-IsAntisymmetric}
 use Rattle.entity_model.specs.{declared.id.EntityId.EntityId, EntityId.entity_cmp, EntityId.entity_cmp_same, EntityId.entity_cmp_total}
 use Rattle.entity_state.specs.{declared.record.Held.Held, declared.record.Record.Record, Record.blank, Table.after_putting, Table.has_room}
 use Rattle.entity_state.specs.Tabled.{Tabled}
@@ -12,9 +14,11 @@ use Rattle.text_region.specs.{Region.Texts, Region.bytes_of}
 use Rattle.slot_keys.specs.declared.keys.Keys.{Keys}
 use Rattle.triple_store.specs.StoreState.{AreKeysOf, IsSound, KeepsKeys, StoreState, counts_in}
 use Rattle.triple_catalog.specs.Counts.{Exchanges, count_of}
-use Rattle.replay_model.specs.{Records.Bytes, Records.Records, Records.record_of, Union.Meaning, Union.triples_held}
+use Rattle.replay_model.specs.{Records.Bytes, Records.Records, Records.record_of, Union.Meaning, Union.owners, Union.triples_held}
+use Rattle.replay_model.specs.{Union.union}
+use Rattle.replay_model.proofs.Owners.{has-union, union-rises}
 use Rattle.shared_triples.specs.Lean.{AreCounted, stored_of, strangers, triples_of}
-use Rattle.shared_triples.proofs.Holding.{id_tells}
+use Rattle.shared_triples.proofs.Holding.{id_tells, owners_moved}
 use Rattle.entity_counts.specs.Naming.{Naming, counted_in, pages_naming}
 use Rattle.lean_holdings.specs.declared.kept.LeanPage.{LeanPage}
 use Rattle.lean_holdings.specs.{Going.CountsIn, Going.PutsIn, Holding.IsKept, Holding.counted_by}
@@ -59,6 +63,21 @@ module _ (m : Meaning Triple) (s : StoreState) (pages : Texts) (names : Naming) 
   stayed_seen =
       seen_moved (bytes_of pages) (bytes_of pages) kept x r (λ y p other is. refl)
       ∙ ap (λ (held : Option (Held Bytes)). map.insert (seen pages kept) x (record { state = r.state; held = held; reconciled = r.reconciled })) held_same
+
+-- where the record of an entity holds what it held all pages mean what they meant
+pub union_stays : (m : Meaning Triple) (records : Records) (x : EntityId) (r : Record Bytes) → r.held ≡ (record_of records x).held
+    → union triple_cmp m (map.insert records x r) ≡ union triple_cmp m records
+union_stays m records x r same =
+    same_rising triple_cmp-total triple_cmp-IsAntisymmetric (union triple_cmp m (map.insert records x r)) (union triple_cmp m records)
+    (union-rises triple_cmp-total m (map.insert records x r)) (union-rises triple_cmp-total m records) (λ t.
+    let moved : owners triple_cmp m (map.insert records x r) t + one_if (has triple_cmp t (triples_held m x (record_of records x).held)) ≡
+    owners triple_cmp m records t + one_if (has triple_cmp t (triples_held m x r.held)) =
+    owners_moved m records x r t in
+    let alike : one_if (has triple_cmp t (triples_held m x r.held)) ≡ one_if
+    (has triple_cmp t (triples_held m x (record_of records x).held)) =
+    ap (λ (held : Option (Held Bytes)). one_if (has triple_cmp t (triples_held m x held))) same in
+    let as_many : owners triple_cmp m (map.insert records x r) t ≡ owners triple_cmp m records t = omega arith in
+    has-union triple_cmp-total m (map.insert records x r) t ∙ ap (nat_lt 0) as_many ∙ sym (has-union triple_cmp-total m records t))
 
 -- ---- other keys
 

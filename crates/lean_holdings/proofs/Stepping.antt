@@ -3,7 +3,7 @@ use Rattle.std.proofs.Common.{◌≡◌, ◌≢◌, ℕ, ◌<◌, true, List, Op
 use Rattle.std.specs.FinMap as map
 use Rattle.sorted_sets.specs.Rising.{difference, has, sorted}
 use Rattle.sorted_sets.proofs.Rising.{has-sorted}
-use Rattle.rdf_term.specs.{declared.triple.Triple.Triple, Order.triple_cmp, Order.triple_cmp-total}
+use Rattle.rdf_term.specs.{declared.triple.Triple.Triple, Fit.HasFitAndShortTerms, Order.triple_cmp, Order.triple_cmp-total}
 use Rattle.entity_model.specs.{declared.id.EntityId.EntityId, declared.event.Event.Event, declared.mapping.MappingVersion.MappingVersion, EntityId.entity_cmp}
 use Rattle.entity_model.specs.declared.mapping.MappingVersion.TheVariants.{One}
 use Rattle.entity_state.specs.{declared.state.State.State, declared.record.Held.Held, declared.record.Record.Record}
@@ -19,8 +19,8 @@ use Rattle.fetched_pages.specs.Meaning.{meaning}
 use Rattle.shared_triples.specs.Lean.{AreCounted, AreNew, IsLean, OthersHoldAlike, count_in, is_own, own_of, stored_of, strangers, triples_of}
 use Rattle.shared_triples.proofs.{Changing.gained_in_order, Changing.gained_once, Changing.new_keys, Keeping.put_in-alike}
 use Rattle.entity_counts.specs.Naming.{Naming}
-use Rattle.parts_exchange.specs.{declared.exchanging.PartsChange.PartsChange, declared.exchanging.PartsExchange.PartsExchange, Exchanged.AreMerged, Exchanged.IsPartsChange}
-use Rattle.parts_exchange.proofs.Telling.{merged}
+use Rattle.parts_exchange.specs.{declared.exchanging.PartsChange.PartsChange, declared.exchanging.PartsExchange.PartsExchange}
+use Rattle.parts_exchange.specs.{Exchanged.IsPartsChange}
 use Rattle.lean_holdings.specs.{declared.kept.LeanPage.LeanPage, declared.parts.NamedParts.NamedParts, Changing.IsChangeOf, Freeing.FreesPiece}
 use Rattle.holders.specs.{Holders.AreBy, Holders.ByVersion, Pieces.IsHeld, Pieces.PieceTexts}
 use Rattle.lean_holdings.specs.{Holding.IsKept, Holding.counted_by, Holding.strangers_on, InStep.AreInStep}
@@ -29,7 +29,8 @@ use Rattle.lean_holdings.specs.Kept.{KeptRecords, held_keys, holds_in, kept_of, 
 use Rattle.holders.proofs.ByVersion.{by_drop, by_put, meaning_other, moved_out, moved_to, version_own}
 use Rattle.holders.proofs.Records.{record_here}
 use Rattle.lean_holdings.proofs.{CountedIn.still_kept, InStep.others_hold, InStep.own_holds, Putting.gone_seen, Putting.page_comes, Putting.page_goes, Putting.page_seen}
-use Rattle.lean_holdings.proofs.{Staying.page_again, Strange.few_name, Strange.some_names}
+use Rattle.lean_holdings.proofs.{Ordered.AreMergedInOrder, Ordered.merged_in_order, Ordered.union_fit, Staying.page_again, Strange.few_name}
+use Rattle.lean_holdings.proofs.{Strange.some_names}
 
 some_keys : (h : Option (Held LeanPage)) (keys : Keys) → is_some h ≡ true → is_some (held_keys h keys) ≡ true
 some_keys None keys is = is
@@ -43,24 +44,33 @@ module _ (x : EntityId) (counted : List EntityId) (m n : Meaning Triple) (p q : 
     (old_is : sorted triple_cmp old ≡ triples_of (own_of counted m) before x) (new_is : sorted triple_cmp new ≡ triples_of (own_of counted n) after x) where
   -- what came
   told_came : (first second : TripleLines) → AreLinesOf first (difference triple_cmp (sorted triple_cmp new) (sorted triple_cmp old))
-      → AreLinesOf second (difference triple_cmp (map.keys q) (map.keys p)) → AreMerged first second (difference triple_cmp (union triple_cmp n after) (union triple_cmp m before))
-  told_came first second first_are second_are =
+      → AreLinesOf second (difference triple_cmp (map.keys q) (map.keys p)) →
+      ((t : Triple) → has triple_cmp t (union triple_cmp n after) ≡ true → HasFitAndShortTerms t)
+      → AreMergedInOrder first second (difference triple_cmp (union triple_cmp n after) (union triple_cmp m before))
+  told_came first second first_are second_are fit =
       let came : List Triple = difference triple_cmp (map.keys q) (map.keys p) in
       let fresh : AreNew (count_in p) (count_in q) came = new_keys p q owned_p owned_q in
-      merged first second old new (triples_of (own_of counted m) before x) (triples_of (own_of counted n) after x) came
-      (difference triple_cmp (union triple_cmp n after) (union triple_cmp m before)) first_are second_are old_is new_is
+      merged_in_order first second old new (triples_of (own_of counted m) before x) (triples_of (own_of counted n) after x)
+      (union triple_cmp m before) (union triple_cmp n after) p q first_are second_are old_is new_is
       (gained_once x counted m n (count_in p) (count_in q) before after was now alike came fresh)
-      (gained_in_order x counted m n (count_in p) (count_in q) before after was now alike came fresh)
+      (gained_in_order x counted m n (count_in p) (count_in q) before after was now alike came fresh) fit
 
 -- the change of the parts is that of the union
 step_change : (x : EntityId) (counted : List EntityId) (m n : Meaning Triple) (p q : Counts) (before after : Records)
     → IsLean m counted (count_in p) before → IsLean n counted (count_in q) after → OthersHoldAlike x m before n after → HaveOwners p → HaveOwners q
     → (old new : List Triple) → sorted triple_cmp old ≡ triples_of (own_of counted m) before x → sorted triple_cmp new ≡ triples_of (own_of counted n) after x
-    → (change : PartsChange) → IsPartsChange p q old new change → IsChangeOf (union triple_cmp m before) (union triple_cmp n after) change
-step_change x counted m n p q before after was now alike owned_p owned_q old new old_is new_is change told = record {
-  came = told_came x counted m n p q before after was now alike owned_p owned_q old new old_is new_is change.own.came change.stored.came told.own.came told.stored.came;
-  gone = told_came x counted n m q p after before now was (λ y other. sym (alike y other)) owned_q owned_p new old new_is old_is change.own.gone change.stored.gone told.own.gone told.stored.gone;
-}
+    → (change : PartsChange) → IsPartsChange p q old new change
+    → ((t : Triple) → has triple_cmp t (union triple_cmp m before) ≡ true → HasFitAndShortTerms t) →
+    ((t : Triple) → has triple_cmp t (union triple_cmp n after) ≡ true → HasFitAndShortTerms t)
+    → IsChangeOf (union triple_cmp m before) (union triple_cmp n after) change
+step_change x counted m n p q before after was now alike owned_p owned_q old new old_is new_is change told fit_before fit_after =
+    let came =
+    told_came x counted m n p q before after was now alike owned_p owned_q old new old_is new_is change.own.came change.stored.came
+    told.own.came told.stored.came fit_after in
+    let gone =
+    told_came x counted n m q p after before now was (λ y other. sym (alike y other)) owned_q owned_p new old new_is old_is change.own.gone
+    change.stored.gone told.own.gone told.stored.gone fit_before in
+    record { came = came.0; gone = gone.0; came_own = came.1; came_stored = came.2; gone_own = gone.1; gone_stored = gone.2 }
 
 -- ---- the version of what is held
 
@@ -177,7 +187,9 @@ module _ (s : StoreState) (pages : Texts) (names : Naming) (ids : ByVersion) (ke
           (subst (λ (q : Records). IsLean after (counted_by names2) (count_in (counts_in s2)) q) seen2 k.kept.lean) in
           subst (λ (q : Records). IsChangeOf (union triple_cmp before records) (union triple_cmp after q) done.change) (sym seen2)
           (step_change x counted before after (counts_in s) (counts_in s2) records put h.kept.lean lean (put_in-alike before after x agree records r)
-          (sound_owned s h.kept.sound) (sound_owned s2 moved.rest.sound) gone.parts.own come.parts.own gone_are.own own_is done.change moved.exchanged.told)
+          (sound_owned s h.kept.sound) (sound_owned s2 moved.rest.sound) gone.parts.own come.parts.own gone_are.own own_is done.change
+          moved.exchanged.told
+          (union_fit ids.by_two records) (union_fit ids2.by_two put))
 
       -- ---- a page comes
 

@@ -1,24 +1,24 @@
 // An entity holds a page from now on, or holds nothing any longer.
 
-ghost use Rattle.std.specs.Prelude.{◌≡◌, ◌<◌, ◌≤◌, ◌||◌, ◌++◌, List, [], true, None, Some, Err, IfOk, OnErr, OnOk, length};
+ghost use Rattle.std.specs.Prelude.{◌≡◌, ◌⊎◌, ◌<◌, ◌≤◌, ◌||◌, ◌++◌, List, [], false, true, None, Some, Err, IfOk, OnErr, OnOk, length};
 ghost use Rattle.std.specs.FinMap as map;
 ghost use Rattle.sorted_sets.specs.Rising.{has};
 ghost use Rattle.rdf_term.specs.declared.triple.Triple.{Triple};
 ghost use Rattle.term_pool.specs.declared.fault.PoolFault.TheVariants.{Full};
 ghost use Rattle.entity_model.specs.{EntityId.entity_cmp, declared.id.EntityId.EntityId as TheId};
 ghost use Rattle.entity_model.specs.declared.mapping.MappingVersion.TheVariants.{One};
-ghost use Rattle.replay_model.specs.{Records.record_of, Union.Meaning, Versions.meaning_by, Versions.with_version};
+ghost use Rattle.replay_model.specs.{Records.record_of, Union.Meaning, Versions.is_holder, Versions.meaning_by, Versions.with_version};
 ghost use Rattle.fetched_pages.specs.Meaning.{meaning};
 ghost use Rattle.shared_triples.specs.Lean.{AreCounted, stored_of};
 ghost use Rattle.entity_counts.specs.Naming.{pages_naming};
-ghost use Rattle.lean_holdings.specs.{Changing.IsChangeOf, Changing.counted_with, Changing.held_triples, Changing.needs};
+ghost use Rattle.lean_holdings.specs.Changing.{IsChangeOf, counted_with, held_triples, needs, needs_of};
 ghost use Rattle.holders.specs.Roomed.{room_with};
 ghost use Rattle.lean_holdings.specs.{Holding.counted_by, Moving.ArePartsOf};
 
 use crate::holdings::LeanHoldings;
-use crate::kept::{LeanPage, keys_of};
+use crate::kept::{LeanPage, held_of, keys_of};
 use crate::moving::{Moving, move_parts};
-use crate::parts::{NamedParts, named_parts, no_parts};
+use crate::parts::{NamedParts, named_parts, no_change, no_parts};
 use crate::records::{make_room, replace, version_in};
 use entity_model::{EntityId, MappingVersion};
 use entity_state::{Held, Standing};
@@ -32,9 +32,9 @@ use triple_store::StoreFault;
 impl LeanHoldings {
     /// Sets the record of an entity, which holds the page of the wanted revision from now on, and tells the change of the triples that
     /// the held pages mean. All entities that the page names are counted then. Those that the page before it named, and that none names
-    /// now, are counted no longer, as far as there is memory for it. Pages are unpacked into a buffer. After a fault some that the page
-    /// names may be counted, and everything else is as it was. The fault is `Full` if the triples that are to be stored have, with the
-    /// stored ones, more distinct terms than the limit.
+    /// now, are counted no longer, as far as there is memory for it. Pages are unpacked into a buffer. After a fault an entity that no
+    /// held page names may be counted or not, whichever it was before; everything else is as it was. The fault is `Full` if the triples
+    /// that are to be stored have more distinct terms than the limit, where no entity is counted but those that pages name.
     pub fn hold(
         &mut self,
         wanted: Wanted,
@@ -58,20 +58,21 @@ impl LeanHoldings {
             has entity_cmp x (counted_with (counted_by self.old.names) wanted.id
             (meaning wanted.version wanted.id wanted.rev page.now)) ≡ true }
         ensures full { result ≡ Err Full →
-            self.old.limit < needs self.old wanted.version wanted.id (Some (record { revision = wanted.rev; content = page.now })) }
-        ensures within { OnOk result (needs self.old wanted.version wanted.id (Some (record { revision = wanted.rev; content = page.now }))
-            ≤ self.old.limit) }
+            self.old.limit < needs_of (meaning_by meaning self.old.by_two) (meaning wanted.version) self.old.records wanted.id
+            (Some (record { revision = wanted.rev; content = page.now })) }
+        ensures within { OnOk result (needs_of (meaning_by meaning self.old.by_two) (meaning wanted.version) self.old.records wanted.id
+            (Some (record { revision = wanted.rev; content = page.now })) ≤ self.old.limit) }
     {
         let is_counted = self.names.is_counted(wanted.id);
         let Ok(come) = named_parts(self.alloc, wanted, page, is_counted) else {
             return Err(StoreFault::OutOfMemory);
         };
-        let held = self.hold_parts(wanted, after, page, &come, buffer);
+        let held = self.hold_with(wanted, after, page, &come, buffer);
         drop(come);
         held
     }
 
-    // The same with the parts of the page.
+    // The same with the parts of the page, tried once: there may be no room only because some are counted that no page names.
     pub(crate) fn hold_parts(
         &mut self,
         wanted: Wanted,
@@ -118,8 +119,35 @@ impl LeanHoldings {
 
     /// Sets the record of an entity, which holds nothing from now on, and tells the change of the triples that the held pages mean. Those
     /// that its page named, and that none names now, are counted no longer, as far as there is memory for it. Pages are unpacked into a
-    /// buffer. After `OutOfMemory` nothing has changed.
+    /// buffer. It takes memory only where there is no record or a page goes. After `OutOfMemory` nothing has changed.
     pub fn release(
+        &mut self,
+        id: EntityId,
+        after: Standing,
+        buffer: &mut Unpacker,
+    ) -> Result<PartsChange, OutOfMemory>
+        ensures records { OnOk result (self.new.records ≡ map.insert self.old.records id (record {
+          state = after.state;
+          held = None;
+          reconciled = after.reconciled;
+        })) }
+        ensures by_two { OnOk result (self.new.by_two ≡ with_version One id self.old.by_two) }
+        ensures change { IfOk result (IsChangeOf (held_triples self.old) (held_triples self.new)) }
+        ensures limit { self.new.limit ≡ self.old.limit }
+        ensures fewer { (x : TheId) → has entity_cmp x (counted_by self.new.names) ≡ true →
+            has entity_cmp x (counted_by self.old.names) ≡ true }
+        ensures err { OnErr result (self.new ≡ self.old) }
+        ensures refused { OnErr result ((map.contains_key self.old.records id ≡ false) ⊎ (is_holder self.old.records id ≡ true)) }
+    {
+        if held_of(&self.table, id).is_none() {
+            self.keep(id, after)?;
+            return Ok(no_change(self.alloc));
+        }
+        self.release_page(id, after, buffer)
+    }
+
+    // The same where a page goes.
+    fn release_page(
         &mut self,
         id: EntityId,
         after: Standing,

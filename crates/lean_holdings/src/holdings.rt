@@ -7,13 +7,13 @@ ghost use Rattle.sorted_sets.specs.Rising.{has, sorted};
 ghost use Rattle.rdf_term.specs.{Fit.HasFitAndShortTerms, Order.triple_cmp};
 ghost use Rattle.term_pool.specs.declared.fault.PoolFault.TheVariants.{Full};
 ghost use Rattle.entity_state.specs.Standing.{standing_of};
-ghost use Rattle.replay_model.specs.{Records.record_of, Versions.meaning_by};
+ghost use Rattle.replay_model.specs.{Records.record_of, Union.owners, Versions.meaning_by};
 ghost use Rattle.fetched_pages.specs.Meaning.{meaning};
 ghost use Rattle.shared_triples.specs.Lean.{stored_of, triples_of};
 ghost use Rattle.entity_model.specs.{EntityId.entity_cmp, declared.id.EntityId.EntityId as TheId};
 ghost use Rattle.entity_counts.specs.Naming.{counted_in, pages_naming};
 ghost use Rattle.holders.specs.{Holding.AreHolders, Roomed.HasRoom, Roomed.room_with};
-ghost use Rattle.lean_holdings.specs.Holding.{counted_by};
+ghost use Rattle.lean_holdings.specs.{Changing.shared_by, Holding.counted_by, Holding.strangers_on};
 
 use crate::counting::{count_page, meant_texts};
 use crate::kept::LeanPage;
@@ -88,10 +88,14 @@ impl LeanHoldings {
         })
     }
 
-    /// What is stored has room, and what is named as mapped by version Two is held. It does nothing but to say so.
+    /// What is stored has room, and so has what two pages may share; the number of the pages that name an entity is that of those which
+    /// hold such a page; and what is named as mapped by version Two is held. It does nothing but to say so.
     pub fn facts(&self)
         ensures room { HasRoom (stored_of (counted_by self.now.names) (meaning_by meaning self.now.by_two))
             self.now.limit self.now.records }
+        ensures shared { HasRoom (shared_by (meaning_by meaning self.now.by_two) self.now.records) self.now.limit self.now.records }
+        ensures named { (x : TheId) → pages_naming self.now.names x
+            ≡ owners entity_cmp (strangers_on (meaning_by meaning self.now.by_two)) self.now.records x }
         ensures holders { AreHolders self.now.by_two self.now.records }
     {
         let _ = &self.store;
@@ -120,10 +124,11 @@ impl LeanHoldings {
         self.table.ids(self.alloc)
     }
 
-    /// How many distinct terms the stored triples have.
+    /// How many distinct terms the stored triples have, which are at least those that two pages may share.
     pub fn terms(&self) -> u32
         ensures count { result
             ≡ room_with (stored_of (counted_by self.now.names) (meaning_by meaning self.now.by_two)) self.now.records [] }
+        ensures least { room_with (shared_by (meaning_by meaning self.now.by_two) self.now.records) self.now.records [] ≤ result }
         ensures within { result ≤ self.now.limit }
     {
         self.store.terms()

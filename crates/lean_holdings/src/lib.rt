@@ -4,10 +4,12 @@
 //! `records` how it is read and put. `storing` stores all of a page whose entity is to be counted, and `counting` counts the entity with
 //! it; `names` moves the names of entities from a page to the one in its place. `parts` parts the triples of a page, and `moving` puts its
 //! parts in the place of others. With these `holding` puts and takes pages, `remapping` maps one by another version, and `restoring` puts
-//! back what was saved; with `uncounting` each counts out again those that no page names any longer. `laws` says that all of it stays in
-//! step where an entity is counted in or out, and where a record is put in.
+//! back what was saved; with `uncounting` each counts out again those that no page names any longer. `again` tries a step once more where
+//! there was no room for it, without those that were left counted. `laws` says that all of it stays in step where an entity is counted in
+//! or out, and where a record is put in.
 #![tactic(auto)]
 
+mod again;
 mod counting;
 mod holding;
 mod holdings;

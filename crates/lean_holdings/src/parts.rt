@@ -1,21 +1,25 @@
 // The parts of a page, with the entities that it names.
 
-ghost use Rattle.std.specs.Prelude.{◌≡◌, None, Some, List, IfErr, IfOk};
+ghost use Rattle.std.specs.Prelude.{◌≡◌, [], None, Some, List, IfErr, IfOk};
 ghost use Rattle.sorted_sets.specs.Rising.{has};
 ghost use Rattle.rdf_term.specs.declared.triple.Triple.{Triple};
 ghost use Rattle.entity_model.specs.{EntityId.entity_cmp, declared.id.EntityId.EntityId as TheId};
 ghost use Rattle.replay_model.specs.Union.{Meaning};
 ghost use Rattle.entity_json.specs.Document.{unfit_of};
 ghost use Rattle.fetched_pages.specs.{Fetched.IsWhy, Meaning.meaning};
-ghost use Rattle.lean_holdings.specs.Moving.{ArePartsOf};
+ghost use Rattle.triple_catalog.specs.Lines.{AreLinesOf};
+ghost use Rattle.lean_holdings.specs.{Changing.IsChangeOf, Moving.ArePartsOf};
 
 use crate::names::in_order;
 use entity_json::DocumentFault;
 use entity_model::EntityId;
 use fetched_pages::Wanted;
 use page_parts::{PageParts, parts_in};
+use page_rows::RowChange;
+use parts_exchange::PartsChange;
 use rdf_term::OutOfMemory;
 use std::alloc::Global;
+use triple_store::{Change, TripleLines};
 
 /// The parts of a page, and the other entities that it names, in rising order.
 #[derive(Drop)]
@@ -31,6 +35,32 @@ pub fn no_parts(alloc: Global, id: EntityId) -> NamedParts
     NamedParts {
         parts: PageParts::new(alloc, id, false),
         names: Vec::new(alloc),
+    }
+}
+
+/// No change. It takes no memory.
+pub fn no_change(alloc: Global) -> PartsChange
+    ensures { (triples : List Triple) → IsChangeOf triples triples result }
+{
+    PartsChange {
+        own: RowChange {
+            came: no_lines(alloc),
+            gone: no_lines(alloc),
+        },
+        stored: Change {
+            came: no_lines(alloc),
+            gone: no_lines(alloc),
+        },
+    }
+}
+
+// No lines.
+fn no_lines(alloc: Global) -> TripleLines
+    ensures { AreLinesOf result [] }
+{
+    TripleLines {
+        count: 0,
+        text: Vec::new(alloc),
     }
 }
 

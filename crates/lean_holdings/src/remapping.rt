@@ -9,7 +9,7 @@ ghost use Rattle.replay_model.specs.Versions.{all_by, is_holder, meaning_by, wit
 ghost use Rattle.fetched_pages.specs.Meaning.{meaning};
 ghost use Rattle.shared_triples.specs.Lean.{AreCounted, stored_of};
 ghost use Rattle.entity_counts.specs.Naming.{pages_naming};
-ghost use Rattle.lean_holdings.specs.{Changing.IsChangeOf, Changing.counted_with, Changing.held_triples, Changing.needs};
+ghost use Rattle.lean_holdings.specs.Changing.{IsChangeOf, counted_with, held_triples, needs, needs_of};
 ghost use Rattle.holders.specs.Roomed.{room_with};
 ghost use Rattle.lean_holdings.specs.{Holding.counted_by, Moving.ArePartsOf};
 ghost use Rattle.holders.specs.Holding.{first_of, stale_by, version_in};
@@ -28,9 +28,40 @@ use triple_store::StoreFault;
 impl LeanHoldings {
     /// Maps what an entity holds by a version, and tells the change of the triples that the held pages mean. All entities that the page
     /// names are counted then. Those that it named before, and that none names now, are counted no longer, as far as there is memory for
-    /// it. Pages are unpacked into a buffer. After a fault some that the page names may be counted, and everything else is as it was. The
-    /// fault is `Full` if the triples that are to be stored have, with the stored ones, more distinct terms than the limit.
+    /// it. Pages are unpacked into a buffer. After a fault an entity that no held page names may be counted or not, whichever it was
+    /// before; everything else is as it was. The fault is `Full` if the triples that are to be stored have more distinct terms than the
+    /// limit, where no entity is counted but those that pages name.
     pub fn remap(
+        &mut self,
+        id: EntityId,
+        version: MappingVersion,
+        buffer: &mut Unpacker,
+    ) -> Result<PartsChange, StoreFault>
+        requires { is_holder self.old.records id ≡ true }
+        ensures records { self.new.records ≡ self.old.records }
+        ensures by_two { OnOk result (self.new.by_two ≡ with_version version id self.old.by_two) }
+        ensures change { IfOk result (IsChangeOf (held_triples self.old) (held_triples self.new)) }
+        ensures limit { self.new.limit ≡ self.old.limit }
+        ensures err_by_two { OnErr result (self.new.by_two ≡ self.old.by_two) }
+        ensures err_named { OnErr result ((x : TheId) → pages_naming self.new.names x ≡ pages_naming self.old.names x) }
+        ensures counted { (x : TheId) → has entity_cmp x (counted_by self.new.names) ≡ true →
+            has entity_cmp x (counted_with (counted_by self.old.names) id
+            (triples_held (meaning version) id (record_of self.old.records id).held)) ≡ true }
+        ensures full { result ≡ Err Full → self.old.limit < needs_of (meaning_by meaning self.old.by_two) (meaning version)
+            self.old.records id (record_of self.old.records id).held }
+        ensures within { OnOk result (needs_of (meaning_by meaning self.old.by_two) (meaning version)
+            self.old.records id (record_of self.old.records id).held ≤ self.old.limit) }
+    {
+        self.facts();
+        match self.remap_once(id, version, buffer) {
+            Ok(change) => Ok(change),
+            Err(StoreFault::Full) => self.remap_again(id, version, buffer),
+            Err(StoreFault::OutOfMemory) => Err(StoreFault::OutOfMemory),
+        }
+    }
+
+    // The same, tried once: there may be no room only because some are counted that no page names.
+    pub(crate) fn remap_once(
         &mut self,
         id: EntityId,
         version: MappingVersion,

@@ -4,16 +4,15 @@ ghost use Rattle.std.specs.Prelude.{◌≡◌, ◌≢◌, ◌⊎◌, ◌<◌, �
 ghost use Rattle.std.specs.FinMap as map;
 ghost use Rattle.sorted_sets.specs.Rising.{has};
 ghost use Rattle.entity_model.specs.{EntityId.entity_cmp, declared.id.EntityId.EntityId as TheId};
-ghost use Rattle.entity_model.specs.declared.mapping.MappingVersion.TheVariants.{One};
 ghost use Rattle.entity_json.specs.Document.{unfit_of};
-ghost use Rattle.replay_model.specs.{Replies.HoldsDocument, Union.triples_held, Versions.is_holder, Versions.with_version};
+ghost use Rattle.replay_model.specs.{Replies.HoldsDocument, Union.triples_held};
+ghost use Rattle.replay_model.specs.Versions.{is_holder, meaning_by, with_version};
 ghost use Rattle.fetched_pages.specs.Meaning.{meaning};
 ghost use Rattle.entity_counts.specs.Naming.{pages_naming};
-ghost use Rattle.lean_holdings.specs.{Changing.by_two_with, Changing.counted_with, Changing.needs, Holding.counted_by};
+ghost use Rattle.lean_holdings.specs.{Changing.by_two_with, Changing.counted_with, Changing.needs_of, Holding.counted_by};
 ghost use Rattle.lean_holdings.specs.declared.restoring.RestoreFault.TheVariants.{Full, OutOfMemory as RestoreOutOfMemory, Unsound};
 
 use crate::holdings::LeanHoldings;
-use crate::kept::held_of;
 use crate::parts::document_parts;
 use entity_json::DocumentFault;
 use entity_model::{EntityId, MappingVersion};
@@ -36,8 +35,8 @@ pub enum RestoreFault {
 
 impl LeanHoldings {
     /// Puts back the record of an entity; the page that it holds is mapped by the version. All entities that the page names are counted
-    /// then; pages are unpacked into a buffer. After a fault some of these may be counted, and everything else is as it was. `Unsound` is
-    /// said of a page that is no document of the entity.
+    /// then; pages are unpacked into a buffer. After a fault an entity that no held page names may be counted or not, whichever it was
+    /// before; everything else is as it was. `Unsound` is said of a page that is no document of the entity.
     pub fn restore(
         &mut self,
         id: EntityId,
@@ -53,8 +52,10 @@ impl LeanHoldings {
         ensures refused { IsErrOf result RestoreOutOfMemory → (is_some entity.now.held ≡ true)
             ⊎ ((map.contains_key self.old.records id ≡ false) ⊎ (is_holder self.old.records id ≡ true)) }
         ensures limit { self.new.limit ≡ self.old.limit }
-        ensures full { IsErrOf result Full → self.old.limit < needs self.old version id entity.now.held }
-        ensures within { OnOk result (needs self.old version id entity.now.held ≤ self.old.limit) }
+        ensures full { IsErrOf result Full → self.old.limit
+            < needs_of (meaning_by meaning self.old.by_two) (meaning version) self.old.records id entity.now.held }
+        ensures within { OnOk result (needs_of (meaning_by meaning self.old.by_two) (meaning version) self.old.records id entity.now.held
+            ≤ self.old.limit) }
         ensures err { OnErr result (self.new.records ≡ self.old.records) }
         ensures err_by_two { OnErr result (self.new.by_two ≡ self.old.by_two) }
         ensures err_named { OnErr result ((x : TheId) → pages_naming self.new.names x ≡ pages_naming self.old.names x) }
@@ -75,39 +76,15 @@ impl LeanHoldings {
             }
             None => {
                 self.facts();
-                match self.restore_nothing(id, after, buffer) {
-                    Ok(()) => Ok(()),
+                match self.release(id, after, buffer) {
+                    Ok(change) => {
+                        drop(change);
+                        Ok(())
+                    }
                     Err(OutOfMemory) => Err(RestoreFault::OutOfMemory),
                 }
             }
         }
-    }
-
-    // Puts back the record of an entity that holds nothing.
-    fn restore_nothing(
-        &mut self,
-        id: EntityId,
-        after: Standing,
-        buffer: &mut Unpacker,
-    ) -> Result<(), OutOfMemory>
-        ensures records { OnOk result (self.new.records ≡ map.insert self.old.records id (record {
-          state = after.state;
-          held = None;
-          reconciled = after.reconciled;
-        })) }
-        ensures by_two { OnOk result (self.new.by_two ≡ with_version One id self.old.by_two) }
-        ensures limit { self.new.limit ≡ self.old.limit }
-        ensures fewer { (x : TheId) → has entity_cmp x (counted_by self.new.names) ≡ true →
-            has entity_cmp x (counted_by self.old.names) ≡ true }
-        ensures err { OnErr result (self.new ≡ self.old) }
-        ensures refused { OnErr result ((map.contains_key self.old.records id ≡ false) ⊎ (is_holder self.old.records id ≡ true)) }
-    {
-        if held_of(&self.table, id).is_none() {
-            return self.keep(id, after);
-        }
-        let change = self.release(id, after, buffer)?;
-        drop(change);
-        Ok(())
     }
 
     // Puts back the record of an entity that holds a page; its state may be of another revision, whose fetch gave no document.
@@ -129,9 +106,10 @@ impl LeanHoldings {
         ensures unsound { IsErrOf result Unsound → unfit_of wanted.id page.now ≢ None }
         ensures limit { self.new.limit ≡ self.old.limit }
         ensures full { IsErrOf result Full →
-            self.old.limit < needs self.old wanted.version wanted.id (Some (record { revision = wanted.rev; content = page.now })) }
-        ensures within { OnOk result (needs self.old wanted.version wanted.id (Some (record { revision = wanted.rev; content = page.now }))
-            ≤ self.old.limit) }
+            self.old.limit < needs_of (meaning_by meaning self.old.by_two) (meaning wanted.version) self.old.records wanted.id
+            (Some (record { revision = wanted.rev; content = page.now })) }
+        ensures within { OnOk result (needs_of (meaning_by meaning self.old.by_two) (meaning wanted.version) self.old.records wanted.id
+            (Some (record { revision = wanted.rev; content = page.now })) ≤ self.old.limit) }
         ensures err { OnErr result (self.new.records ≡ self.old.records) }
         ensures err_by_two { OnErr result (self.new.by_two ≡ self.old.by_two) }
         ensures err_named { OnErr result ((x : TheId) → pages_naming self.new.names x ≡ pages_naming self.old.names x) }
@@ -142,7 +120,7 @@ impl LeanHoldings {
         let is_counted = self.names.is_counted(wanted.id);
         match document_parts(self.alloc, wanted, page, is_counted) {
             Ok(come) => {
-                let held = self.hold_parts(wanted, after, page, &come, buffer);
+                let held = self.hold_with(wanted, after, page, &come, buffer);
                 drop(come);
                 match held {
                     Ok(change) => {

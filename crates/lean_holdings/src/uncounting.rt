@@ -80,6 +80,23 @@ impl LeanHoldings {
         counted
     }
 
+    // Counts out all that no page names. Where memory is refused some of them may be counted still.
+    pub(crate) fn count_out_unnamed(&mut self, buffer: &mut Unpacker) -> Result<(), OutOfMemory>
+        ensures records { self.new.records ≡ self.old.records }
+        ensures by_two { self.new.by_two ≡ self.old.by_two }
+        ensures limit { self.new.limit ≡ self.old.limit }
+        ensures named { (x : TheId) → pages_naming self.new.names x ≡ pages_naming self.old.names x }
+        ensures fewer { (x : TheId) → has entity_cmp x (counted_by self.new.names) ≡ true →
+            has entity_cmp x (counted_by self.old.names) ≡ true }
+        ensures out { OnOk result ((x : TheId) → has entity_cmp x (counted_by self.new.names) ≡ true →
+            0 < pages_naming self.old.names x) }
+    {
+        let ids = self.names.unnamed(self.alloc)?;
+        let counted = self.count_out_all(ids.as_slice(), buffer);
+        drop(ids);
+        counted
+    }
+
     // Counts out those that the page that went names, or, where the other page didn't come, those that this one names, unless a page names
     // them, and as far as there is memory for it.
     pub(crate) fn count_out_rest(

@@ -9,4 +9,4 @@ mod merging;
 
 pub use exchanging::{HadParts, PartsChange, PartsExchange, exchange_parts};
 pub use laws::parts_tell_the_change;
-pub use merging::merged_lines;
+pub use merging::{NextLine, merged_lines, next_line};

@@ -36,16 +36,17 @@ pub fn merged_lines(
     Ok(TripleLines { count, text })
 }
 
-// The next line of two texts, and what is left of each.
+/// The next line of two texts, its line feed included, and what is left of each.
 #[derive(Clone, Copy)]
-pub(crate) struct NextLine<'a> {
-    pub(crate) line: &'a [u8],
-    pub(crate) left: &'a [u8],
-    pub(crate) right: &'a [u8],
+pub struct NextLine<'a> {
+    pub line: &'a [u8],
+    pub left: &'a [u8],
+    pub right: &'a [u8],
 }
 
-// The lesser of the first lines of two texts; where both are the same line, it is taken from both.
-fn next_line<'a>(left: &'a [u8], right: &'a [u8]) -> NextLine<'a>
+/// The lesser of the first lines of two texts, not both of them empty. Where both are the same line, it is taken from both. It takes no
+/// memory.
+pub fn next_line<'a>(left: &'a [u8], right: &'a [u8]) -> NextLine<'a>
     requires { 0 < length left.now + length right.now }
     ensures next { (some others : List Triple) → left.now ≡ flat_map triple_text some → right.now ≡ flat_map triple_text others →
         AreOrderedLines some → AreOrderedLines others → IsNext some others result }

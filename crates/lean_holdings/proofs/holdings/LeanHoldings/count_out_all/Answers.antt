@@ -1,5 +1,5 @@
 -- One more entity isn't counted, unless a page names it, or memory was refused.
-use Rattle.std.proofs.Common.{true, false, sym, ◌∙◌, ap, take, add-one}
+use Rattle.std.proofs.Common.{sym, ◌∙◌, ap, take, add-one}
 use Rattle.std.proofs.Math.Seq.{take-suc}
 use Rattle.sorted_sets.specs.Rising.{has}
 use Rattle.entity_model.specs.EntityId.{entity_cmp}
