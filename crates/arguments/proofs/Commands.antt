@@ -54,7 +54,7 @@ of_patches = record {
   behind = λ words. refl;
   ends = λ rows. refl;
   knows = record {
-    entries = ((refl, refl, refl), ((refl, refl, refl), ((refl, refl, refl), ((refl, refl, refl), ((refl, refl, refl), ((refl, refl, refl), ((refl, refl, refl), tt)))))));
+    entries = ((refl, refl, refl), ((refl, refl, refl), ((refl, refl, refl), ((refl, refl, refl), ((refl, refl, refl), ((refl, refl, refl), ((refl, refl, refl), ((refl, refl, refl), tt))))))));
     plain = refl;
   };
 }

@@ -21,10 +21,12 @@ pub record Choices : Type 0 where
   pub every : Option ℕ
   -- the file of the snapshot that the run goes on from
   pub resume : Option (List ℕ)
+  -- whether only triples that two pages may share are stored
+  pub lean : Bool
 
--- what items of this table ask for; a patch stream has no sections
-abbrev pub choices_of : List Entry → List Item → Choices
-choices_of table items = record {
+-- what items of this table ask for, where this says whether the run is lean; a patch stream has no sections
+abbrev pub choices_of : List Entry → Bool → List Item → Choices
+choices_of table lean items = record {
   folder = value_in (codes "--from") items;
   max_bytes = number_in table (codes "--max-bytes") items;
   max_terms = number_in table (codes "--max-terms") items;
@@ -35,6 +37,7 @@ choices_of table items = record {
   save = value_in (codes "--save") items;
   every = number_in table (codes "--every") items;
   resume = value_in (codes "--resume") items;
+  lean = lean;
 }
 
 -- the folder of the revisions: without `--from` the current folder
@@ -100,5 +103,6 @@ split_choices_of items route = record {
     save = value_in (codes "--save") items;
     every = number_in split_table (codes "--every") items;
     resume = value_in (codes "--resume") items;
+    lean = false;
   };
 }

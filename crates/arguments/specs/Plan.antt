@@ -1,5 +1,5 @@
 -- What the arguments ask for.
-use Rattle.std.specs.Prelude.{ℕ, ◌≤◌, Bool, ◌||◌, not, cond, List, [], ◌∷◌, Option, None, Some, codes, option_map, IfSome}
+use Rattle.std.specs.Prelude.{◌≡◌, ℕ, ◌≤◌, Bool, ◌||◌, false, not, cond, List, [], ◌∷◌, Option, None, Some, codes, option_map, IfSome}
 use Rattle.std.specs.Option.{option_and_then}
 use Rattle.arguments.specs.declared.table.Command.{Command}
 use Rattle.arguments.specs.declared.table.Command.TheVariants.{Replay as ToReplay, Drill as ToDrill, Patches as ToPatches, Follow as ToFollow, Split as ToSplit}
@@ -21,11 +21,12 @@ understood table words = cond (are_items table (items_of table words)) (Some (it
 abbrev pub has_file : List Item → Bool
 has_file items = is_there (codes "--save") items || not (is_there (codes "--every") items)
 
--- what a command and its items ask for; the size of a drill has to be there, and so has the text of the routes of a split
+-- what a command and its items ask for: only a patch stream may be lean, the size of a drill has to be there, and so has the text of the
+-- routes of a split
 abbrev pub asked_by : Command → List Item → Option Plan
-asked_by ToReplay items = Some (Replay (choices_of replay_table items))
+asked_by ToReplay items = Some (Replay (choices_of replay_table false items))
 asked_by ToDrill items = option_map Drill (number_in drill_table (codes "--size") items)
-asked_by ToPatches items = Some (Patches (choices_of patches_table items))
+asked_by ToPatches items = Some (Patches (choices_of patches_table (is_there (codes "--lean") items) items))
 asked_by ToFollow items = Some (Follow (follow_choices_of items))
 asked_by ToSplit items = option_map (λ route. Split (split_choices_of items route)) (value_in (codes "--route") items)
 
@@ -38,10 +39,10 @@ abbrev pub plan_of : List (List ℕ) → Option Plan
 plan_of [] = None
 plan_of (word ∷ words) = option_and_then (λ command. option_and_then (asked command) (understood (table_of command) words)) (command_named word)
 
--- what a plan asks for lies in its range
+-- what a plan asks for lies in its range, and only a patch stream is lean
 abbrev pub IsSized : Plan → Type 0
-IsSized (Replay choices) = IsAllowed choices
+IsSized (Replay choices) = IsAllowed choices × (choices.lean ≡ false)
 IsSized (Drill size) = (1 ≤ size) × (size ≤ greatest_size)
 IsSized (Patches choices) = IsAllowed choices × IsBounded choices
 IsSized (Follow choices) = IfSome choices.max_bytes (λ n. n ≤ 1099511627776)
-IsSized (Split choices) = IsAllowed choices.replay
+IsSized (Split choices) = IsAllowed choices.replay × (choices.replay.lean ≡ false)

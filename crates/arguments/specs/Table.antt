@@ -61,6 +61,7 @@ patches_table =
     ∷ entry (codes "--save") Text
     ∷ entry (codes "--every") (Number 1 4294967295)
     ∷ entry (codes "--resume") Text
+    ∷ entry (codes "--lean") Flag
     ∷ []
 
 -- the items of a follower

@@ -1,6 +1,6 @@
 // What a replay, a patch stream, a follower and a split are asked for.
 
-ghost use Rattle.std.specs.Prelude.{◌≡◌, ◌⊎◌, ℕ, ◌≤◌, ◌^◌, codes, option_map, IfSome};
+ghost use Rattle.std.specs.Prelude.{◌≡◌, ◌⊎◌, ℕ, ◌≤◌, ◌^◌, false, codes, option_map, IfSome};
 ghost use Rattle.arguments.specs.{Items.number_in, Table.IsInRange, Table.kind_in, Table.table_of};
 ghost use Rattle.arguments.specs.Options.{IsAllowed, IsBounded, IsItemInRange, choices_of, follow_choices_of, follow_max_bytes_of, max_bytes_of, closes, folder_of, max_terms_of, split_choices_of};
 ghost use Rattle.arguments.specs.declared.table.Command.TheVariants.{Replay, Patches, Follow, Split};
@@ -15,7 +15,7 @@ const FOLDER: &str = ".";
 /// The default of `--max-bytes`.
 const MAX_BYTES: u64 = 1_073_741_824;
 
-/// What a replay or a patch stream is asked for, as the arguments say it. A patch stream has no sections.
+/// What a replay or a patch stream is asked for, as the arguments say it. A patch stream has no sections, and it alone may be lean.
 #[derive(Drop)]
 pub struct ReplayOptions<'a> {
     folder: Option<&'a str>,
@@ -28,6 +28,7 @@ pub struct ReplayOptions<'a> {
     save: Option<&'a str>,
     every: Option<u32>,
     resume: Option<&'a str>,
+    lean: bool,
 }
 
 impl<'a> Model for ReplayOptions<'a> {
@@ -48,6 +49,7 @@ impl<'a> Model for ReplayOptions<'a> {
       save = option_map (λ p. p.now) a.save;
       every = a.every;
       resume = option_map (λ p. p.now) a.resume;
+      lean = a.lean;
     } };
 
     ghost invariant = { λ a. IsItemInRange (codes "--max-bytes") a.max_bytes × IsItemInRange (codes "--max-terms") a.max_terms
@@ -55,10 +57,11 @@ impl<'a> Model for ReplayOptions<'a> {
 }
 
 impl<'a> ReplayOptions<'a> {
-    /// What the items after `replay` or `patches` ask for.
-    pub fn of_items(items: &Request<'a>) -> ReplayOptions<'a>
+    /// What the items after `replay` or `patches` ask for, where this says whether the run is lean.
+    pub fn of_items(items: &Request<'a>, lean: bool) -> ReplayOptions<'a>
         requires { (items.now.command ≡ Replay) ⊎ (items.now.command ≡ Patches) }
-        ensures choices { result ≡ choices_of (table_of items.now.command) items.now.items }
+        ensures choices { result ≡ choices_of (table_of items.now.command) lean items.now.items }
+        ensures lean { result.lean ≡ lean }
         ensures bounded { items.now.command ≡ Patches → IsBounded result }
     {
         ReplayOptions {
@@ -72,6 +75,7 @@ impl<'a> ReplayOptions<'a> {
             save: items.text("--save"),
             every: small_number(items, "--every"),
             resume: items.text("--resume"),
+            lean,
         }
     }
 
@@ -149,6 +153,13 @@ impl<'a> ReplayOptions<'a> {
         ensures { option_map (λ p. p.now) result ≡ self.now.resume }
     {
         self.resume
+    }
+
+    /// Whether only triples that two pages may share are stored. The changes of the triples of all pages are reported all the same.
+    pub fn lean(&self) -> bool
+        ensures { result ≡ self.now.lean }
+    {
+        self.lean
     }
 
     /// Whether the end of the input is the end of the deliveries: if the world is saved, more may come in a later run.
@@ -234,7 +245,8 @@ impl<'a> SplitOptions<'a> {
     /// What the items after `split` ask for, with this text of the routes.
     pub fn of_items(items: &Request<'a>, route: &'a str) -> SplitOptions<'a>
         requires { items.now.command ≡ Split }
-        ensures { result ≡ split_choices_of items.now.items route.now }
+        ensures choices { result ≡ split_choices_of items.now.items route.now }
+        ensures lean { result.replay.lean ≡ false }
     {
         let replay = ReplayOptions {
             folder: items.text("--from"),
@@ -247,6 +259,7 @@ impl<'a> SplitOptions<'a> {
             save: items.text("--save"),
             every: small_number(items, "--every"),
             resume: items.text("--resume"),
+            lean: false,
         };
         SplitOptions { route, replay }
     }

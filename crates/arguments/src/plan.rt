@@ -72,12 +72,15 @@ fn asked_by<'a>(request: &Request<'a>) -> Option<Plan<'a>>
     ensures sized { IfSome result IsSized }
 {
     match request.command() {
-        Command::Replay => Some(Plan::Replay(ReplayOptions::of_items(request))),
+        Command::Replay => Some(Plan::Replay(ReplayOptions::of_items(request, false))),
         Command::Drill => {
             let size = request.number("--size")?;
             Some(Plan::Drill(size as u32))
         }
-        Command::Patches => Some(Plan::Patches(ReplayOptions::of_items(request))),
+        Command::Patches => {
+            let lean = request.has("--lean");
+            Some(Plan::Patches(ReplayOptions::of_items(request, lean)))
+        }
         Command::Follow => Some(Plan::Follow(FollowOptions::of_items(request))),
         Command::Split => {
             let route = request.text("--route")?;

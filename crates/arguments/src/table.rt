@@ -48,7 +48,7 @@ const REPLAY: [Row<'static>; 10] = [
 const DRILL: [Row<'static>; 1] = [("--size", "size", ValueKind::Number(1, 200_000))];
 
 // The items of a patch stream.
-const PATCHES: [Row<'static>; 7] = [
+const PATCHES: [Row<'static>; 8] = [
     ("--from", "from", ValueKind::Text),
     ("--max-bytes", "max-bytes", FEWER_BYTES),
     ("--max-terms", "max-terms", COUNT),
@@ -56,6 +56,7 @@ const PATCHES: [Row<'static>; 7] = [
     ("--save", "save", ValueKind::Text),
     ("--every", "every", COUNT),
     ("--resume", "resume", ValueKind::Text),
+    ("--lean", "lean", ValueKind::Flag),
 ];
 
 // The items of a follower.

@@ -1,11 +1,14 @@
 //! What a case sees of a world, in lines: its entities, its side output, and how many entities own a triple.
 //!
-//! No function here has a contract: all only serve the gate.
+//! No public function here has a contract: all only serve the gate.
 #![tactic(auto)]
+
+ghost use Rattle.std.specs.Prelude.{◌≡◌, false};
 
 use anyhow::{Context, Result, bail};
 use entity_model::{EntityId, Event, Kind, Unfit};
-use entity_state::{Cause, Entry, Mode};
+use entity_state::{Cause, Entry, Mode, State};
+use page_packing::Unpacker;
 use rdf_term::{OutOfMemory, Pattern, Term, Triple, TripleSet};
 use std::alloc::{AllocError, Global};
 use std::str;
@@ -25,40 +28,57 @@ pub fn records(alloc: Global, world: &World) -> Result<String> {
 // Appends a line for each entity.
 fn push_records(alloc: Global, world: &World, lines: &mut String) -> Result<(), OutOfMemory> {
     let ids = world.entities()?;
+    let mut page = Unpacker::new(alloc);
     for id in ids.as_slice() {
-        push_record(alloc, world, *id, lines)?;
+        push_record(alloc, world, *id, &mut page, lines)?;
     }
     Ok(())
 }
 
-// Appends the line of an entity.
+// Appends the line of an entity. The page that it holds may be unpacked into a buffer.
 fn push_record(
     alloc: Global,
     world: &World,
     id: EntityId,
+    page: &mut Unpacker,
     lines: &mut String,
 ) -> Result<(), OutOfMemory> {
+    let held = held_revision(world, id, page)?;
     let name = id.text(alloc)?;
-    let written = write_record(world, id, name.as_str(), lines);
+    let written = write_record(world.state(id), held, name.as_str(), lines);
     Ok(written?)
 }
 
-// Writes the line of an entity with this name.
-fn write_record(
+// The revision that an entity holds, if it holds one. In a lean world its page is unpacked into a buffer.
+fn held_revision(
     world: &World,
     id: EntityId,
+    page: &mut Unpacker,
+) -> Result<Option<u64>, OutOfMemory> {
+    if world.is_lean() {
+        return world.read_held(id, page);
+    }
+    match world.held(id) {
+        Some((revision, _)) => Ok(Some(revision)),
+        None => Ok(None),
+    }
+}
+
+// Writes the line of an entity with this name, which is in this state and may hold a revision.
+fn write_record(
+    state: State,
+    held: Option<u64>,
     name: &str,
     lines: &mut String,
 ) -> Result<(), AllocError> {
-    let state = world.state(id);
     let mode = match state.mode {
         Mode::Unknown => "unknown",
         Mode::Kept => "kept",
         Mode::Deleted => "deleted",
     };
     let rev = state.rev;
-    match world.held(id) {
-        Some((held, _)) => write!(lines, "{name} {mode} {rev}, holds {held}\n"),
+    match held {
+        Some(held) => write!(lines, "{name} {mode} {rev}, holds {held}\n"),
         None => write!(lines, "{name} {mode} {rev}, holds nothing\n"),
     }
 }
@@ -156,27 +176,41 @@ fn cause_word(cause: Cause) -> &'static str {
     }
 }
 
-/// Lines like those given, a number and a triple each, with the number of entities that hold the triple.
+/// Lines like those given, a number and a triple each, with the number of entities that hold the triple. Of a lean world it says nothing.
 ///
 /// # Errors
 /// A line can't be read, memory was refused, or the sets of stored triples disagree with the owners.
 pub fn owners(alloc: Global, world: &World, given: &[u8]) -> Result<String> {
     let mut lines = String::new(alloc);
-    for line in str::from_utf8(given)?.lines() {
-        push_owners(alloc, world, line, &mut lines)?;
+    if !world.is_lean() {
+        push_all_owners(alloc, world, str::from_utf8(given)?, &mut lines)?;
     }
     Ok(lines)
 }
 
+// Appends a line like each of these, with the number of entities that hold its triple.
+fn push_all_owners(alloc: Global, world: &World, given: &str, lines: &mut String) -> Result<()>
+    requires { world.now.limit.lean ≡ false }
+{
+    for line in given.lines() {
+        push_owners(alloc, world, line, lines)?;
+    }
+    Ok(())
+}
+
 // Appends a line like this one, with the number of entities that hold its triple.
-fn push_owners(alloc: Global, world: &World, line: &str, lines: &mut String) -> Result<()> {
+fn push_owners(alloc: Global, world: &World, line: &str, lines: &mut String) -> Result<()>
+    requires { world.now.limit.lean ≡ false }
+{
     let (_, triple_text) = line.split_once(' ').context("a number and a triple")?;
     let count = owners_of(alloc, world, triple_text)?;
     Ok(write!(lines, "{count} {triple_text}\n")?)
 }
 
 // How many entities hold the triple with this text.
-fn owners_of(alloc: Global, world: &World, text: &str) -> Result<u64> {
+fn owners_of(alloc: Global, world: &World, text: &str) -> Result<u64>
+    requires { world.now.limit.lean ≡ false }
+{
     let Some(triple) = triple_in(alloc, text) else {
         bail!("no triple, or no memory: {text}");
     };
@@ -186,7 +220,9 @@ fn owners_of(alloc: Global, world: &World, text: &str) -> Result<u64> {
 }
 
 // How many entities hold a triple. What is stored has to agree, and so has what each entity holds.
-fn agreed_owners(alloc: Global, world: &World, triple: &Triple, text: &str) -> Result<u64> {
+fn agreed_owners(alloc: Global, world: &World, triple: &Triple, text: &str) -> Result<u64>
+    requires { world.now.limit.lean ≡ false }
+{
     let count = world.owners(triple);
     let stored = is_stored(alloc, world, triple).context(format_args!("{text}"))?;
     if stored != (count > 0) {
@@ -199,7 +235,9 @@ fn agreed_owners(alloc: Global, world: &World, triple: &Triple, text: &str) -> R
 }
 
 // How many entities have the triple in the set of what they hold; None where memory is refused.
-fn holders(world: &World, triple: &Triple) -> Option<u64> {
+fn holders(world: &World, triple: &Triple) -> Option<u64>
+    requires { world.now.limit.lean ≡ false }
+{
     let ids = world.entities().ok()?;
     let mut count: u64 = 0;
     for id in ids.as_slice() {
@@ -211,13 +249,17 @@ fn holders(world: &World, triple: &Triple) -> Option<u64> {
 }
 
 // Whether an entity has the triple in the set of what it holds; None where memory is refused.
-fn is_held(world: &World, id: EntityId, triple: &Triple) -> Option<bool> {
+fn is_held(world: &World, id: EntityId, triple: &Triple) -> Option<bool>
+    requires { world.now.limit.lean ≡ false }
+{
     let set = world.set_of(id).ok()?;
     Some(set.contains(triple))
 }
 
 // Whether the triple is in both sets: of all that is stored, and of what agrees with its object.
-fn is_stored(alloc: Global, world: &World, triple: &Triple) -> Result<bool> {
+fn is_stored(alloc: Global, world: &World, triple: &Triple) -> Result<bool>
+    requires { world.now.limit.lean ≡ false }
+{
     let all = is_exported(world, triple).context("out of memory")?;
     let found = is_found(alloc, world, triple).context("out of memory")?;
     if all != found {
@@ -227,20 +269,26 @@ fn is_stored(alloc: Global, world: &World, triple: &Triple) -> Result<bool> {
 }
 
 // Whether the triple is in the set of all that is stored; None where memory is refused.
-fn is_exported(world: &World, triple: &Triple) -> Option<bool> {
+fn is_exported(world: &World, triple: &Triple) -> Option<bool>
+    requires { world.now.limit.lean ≡ false }
+{
     let all = world.export().ok()?;
     Some(all.contains(triple))
 }
 
 // Whether the triple is in the set of what agrees with its object; None where memory is refused.
-fn is_found(alloc: Global, world: &World, triple: &Triple) -> Option<bool> {
+fn is_found(alloc: Global, world: &World, triple: &Triple) -> Option<bool>
+    requires { world.now.limit.lean ≡ false }
+{
     let object = triple.object.copy(alloc).ok()?;
     let found = found_by_object(world, object)?;
     Some(found.contains(triple))
 }
 
 // The set of what agrees with an object; None where memory is refused.
-fn found_by_object(world: &World, object: Term) -> Option<TripleSet> {
+fn found_by_object(world: &World, object: Term) -> Option<TripleSet>
+    requires { world.now.limit.lean ≡ false }
+{
     let pattern = Pattern {
         subject: None,
         predicate: None,

@@ -4,11 +4,9 @@ use Rattle.std.specs.Prelude.{◌⊎◌}
 use Rattle.std.specs.{Option.option_map, Str.IsUtf8}
 use Rattle.sorted_sets.specs.Rising.{Each}
 use Rattle.wq_io.specs.Lines.{lines}
-use Rattle.entity_model.specs.{declared.id.EntityId.EntityId, declared.mapping.MappingVersion.MappingVersion}
-use Rattle.replay_model.specs.{Records.Records, Union.triples_held, Versions.all_by, Versions.meaning_by}
+use Rattle.replay_model.specs.Versions.{all_by, meaning_by}
 use Rattle.fetched_pages.specs.Meaning.{meaning}
-use Rattle.holders.specs.Roomed.{room_with}
-use Rattle.world.specs.WorldState.{WorldState}
+use Rattle.world.specs.{Limit.Limit, Limit.needs, Roomed.needs_now, WorldState.WorldState}
 use Rattle.snapshot.specs.{declared.line.Line.Line, File.lines_in, LineText.line_of}
 use Rattle.snapshot.specs.declared.line.Line.TheVariants.{Head as Begins, Remembered, Entity, Side, End}
 use Rattle.snapshot.specs.Whole.{Loading, Saved, after_line, unbegun}
@@ -175,13 +173,11 @@ same_room w v (Begun c) (Begun d) m n is w_one v_one limit (Entity x r) lacks =
     let version : w.mapping ≡ v.mapping = ap (λ (k : Saved). k.version) saved in
     let records : w.replay.played.records ≡ v.replay.played.records = ap (λ (k : Saved). k.state.played.records) saved in
     let ids : w.by_two ≡ v.by_two = w_one ∙ ap₂ all_by version records ∙ sym v_one in
-    let same : room_with (meaning_by meaning w.by_two) w.replay.played.records (triples_held (meaning w.mapping) x r.held) ≡ room_with (meaning_by meaning v.by_two) v.replay.played.records (triples_held (meaning v.mapping) x r.held) =
-    ap (λ (ids : List EntityId). room_with (meaning_by meaning ids) w.replay.played.records (triples_held (meaning w.mapping) x r.held)) ids
-    ∙ ap (λ (rs : Records). room_with (meaning_by meaning v.by_two) rs (triples_held (meaning w.mapping) x r.held)) records
-    ∙ ap (λ (k : MappingVersion). room_with (meaning_by meaning v.by_two) v.replay.played.records (triples_held (meaning k) x r.held)) version in
-    omega (arith, same, lacks.over, limit)
+    let same : needs_now w x r.held ≡ needs_now v x r.held =
+    λ i. needs (limit i).lean (meaning_by meaning (ids i)) (meaning (version i)) (records i) x r.held in
+    omega (arith, same, lacks.over, ap (λ (l : Limit). l.terms) limit)
 
-module _ (room : ℕ) (bytes : List ℕ) (over : IsFileOverfull room bytes) where
+module _ (room : Limit) (bytes : List ℕ) (over : IsFileOverfull room bytes) where
   abbrev lacking : Loading
   lacking = loading_of over.world over.stage (length over.done)
 

@@ -1,7 +1,7 @@
 -- Why a file isn't loaded.
 use Rattle.std.specs.Prelude.{◌≡◌, ⊤, ◌⊎◌, ℕ, ◌+◌, ◌<◌, ◌≤◌, List, ◌∷◌, length, Option, None, Some, IfSome}
 use Rattle.wq_io.specs.{Lines.lines, Streams.Rose}
-use Rattle.world.specs.WorldState.{WorldState}
+use Rattle.world.specs.{Limit.Limit, WorldState.WorldState}
 use Rattle.snapshot.specs.{File.feeds, Whole.Loading, Whole.whole}
 use Rattle.checkpoint.specs.declared.fault.LoadFault.{LoadFault}
 use Rattle.checkpoint.specs.declared.fault.LoadFault.TheVariants.{ReadFault, TooLong, BadLine, Full, OutOfMemory}
@@ -41,9 +41,8 @@ pub record IsUnended (bytes : List ℕ) (number : ℕ) : Type 0 where
 abbrev pub IsNoSnapshot : List ℕ → ℕ → Type 0
 IsNoSnapshot bytes number = IsBadSnapshotLine bytes number ⊎ (EndsEarly bytes number ⊎ IsUnended bytes number)
 
--- a line is that of a record which may come, but has no room in a world that may be loaded from those before it, with room for so many
--- terms
-pub record IsFileOverfull (room : ℕ) (bytes : List ℕ) : Type 0 where
+-- a line is that of a record which may come, but has no room in a world that may be loaded from those before it, with this limit on terms
+pub record IsFileOverfull (room : Limit) (bytes : List ℕ) : Type 0 where
   pub world : WorldState
   pub stage : Stage
   pub done : List (List ℕ)
@@ -57,12 +56,12 @@ pub record IsFileOverfull (room : ℕ) (bytes : List ℕ) : Type 0 where
   pub over : Overfills line (loading_of world stage (length done)) world
 
 -- the file is no snapshot, by the line with this number, and no line up to this one lacks room
-abbrev pub IsNoSnapshotWithin : ℕ → List ℕ → ℕ → Type 0
+abbrev pub IsNoSnapshotWithin : Limit → List ℕ → ℕ → Type 0
 IsNoSnapshotWithin room bytes number = IsNoSnapshot bytes number × ¬ (IsFileOverfull room bytes)
 
 -- why a file isn't loaded, where its bytes are known. The first line that is refused or lacks room decides, since each line before it may
 -- come and has room
-abbrev pub HasCause : LoadFault → ℕ → Option (List ℕ) → ℕ → ℕ → Type 0
+abbrev pub HasCause : LoadFault → Limit → Option (List ℕ) → ℕ → ℕ → Type 0
 HasCause ReadFault room left before now = Rose before now
 HasCause TooLong room left before now = IfSome left (λ bytes. longest_file < length bytes)
 HasCause (BadLine number) room left before now = IfSome left (λ bytes. IsNoSnapshotWithin room bytes number)

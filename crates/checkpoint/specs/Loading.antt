@@ -7,17 +7,16 @@ use Rattle.sorted_sets.specs.Rising.{Each, IsRising, has}
 use Rattle.entity_state.specs.declared.entry.Cause.TheVariants.{Missing, Failed, Unfit}
 use Rattle.entity_state.specs.{declared.entry.Entry.Entry, declared.entry.Entry.TheVariants.Late, declared.entry.Entry.TheVariants.Revision}
 use Rattle.replay_model.specs.{Entries.HoldsUnlessOpen, Explained.is_applied, Replies.HoldsDocument, Replies.failed_events}
-use Rattle.replay_model.specs.{Records.Records, Records.record_of, ReplayState.nothing_delivered, Union.triples_held}
+use Rattle.replay_model.specs.{Records.Records, Records.record_of, ReplayState.nothing_delivered}
 use Rattle.replay_model.specs.Versions.{all_by, meaning_by}
 use Rattle.entity_json.specs.Document.{unfit_of}
 use Rattle.wq_io.specs.Lines.{lines}
 use Rattle.fetched_pages.specs.Meaning.{meaning}
-use Rattle.holders.specs.Roomed.{HasRoom, room_with}
-use Rattle.world.specs.{Restoring.MayStand, WorldState.WorldState}
+use Rattle.world.specs.{Limit.HasRoomBy, Restoring.MayStand, Roomed.needs_now, WorldState.WorldState}
 use Rattle.snapshot.specs.declared.line.Line.{Line}
 use Rattle.snapshot.specs.declared.line.Line.TheVariants.{Head as Begins, Remembered, Entity, Side, End}
 use Rattle.snapshot.specs.{File.IsFitSaved, File.lines_in, Waiting.IsAtRest, LineText.line_of}
-use Rattle.snapshot.specs.Whole.{Loading, unbegun, begun, ended as whole_of, after_line, beginning}
+use Rattle.snapshot.specs.Whole.{Loading, unbegun, begun, ended as whole_of, after_line}
 use Rattle.snapshot.specs.declared.counts.Counts.{Counts}
 use Rattle.checkpoint.specs.declared.stage.Stage.{Stage}
 use Rattle.checkpoint.specs.declared.stage.Stage.TheVariants.{Unbegun, Begun, Ended}
@@ -78,7 +77,7 @@ pub record IsReady (w : WorldState) (stage : Stage) (n : ℕ) : Type 0 where
   pub resting : IsResting w.replay.buffer
   pub failed : HasReachedFailed w.replay.buffer.mark w.replay.played.side
   pub documents : HoldsDocuments w.replay.played.records
-  pub held : HasRoom (meaning_by meaning w.by_two) w.limit w.replay.played.records
+  pub held : HasRoomBy w.limit (meaning_by meaning w.by_two) w.replay.played.records
   pub within : AreStageWithin stage
 
 -- whether an entry of the side output may stand beside this mark: where it says that a fetch failed, the mark reached its event
@@ -126,9 +125,9 @@ pub record BeginsWith (bytes : List ℕ) (done : List (List ℕ)) (loading : Loa
   pub read : lines_in done ≡ Some items
   pub lead : Leads unbegun items loading
 
--- the record of an entity has no room: the triples of its page, with those of all that is held, have more terms than there may be
+-- the record of an entity has no room: what is stored of its page, with what is stored already, has more terms than there may be
 abbrev pub HasNoRoomForLine : WorldState → Line → Type 0
-HasNoRoomForLine w (Entity x r) = w.limit < room_with (meaning_by meaning w.by_two) w.replay.played.records (triples_held (meaning w.mapping) x r.held)
+HasNoRoomForLine w (Entity x r) = w.limit.terms < needs_now w x r.held
 HasNoRoomForLine w (Begins h) = ⊥
 HasNoRoomForLine w (Remembered e) = ⊥
 HasNoRoomForLine w (Side entry) = ⊥

@@ -20,7 +20,7 @@ pub enum LoadFault {
     /// feed. If the lines end too early, the number is one more than that of the last line.
     #[error("snapshot: line {0}")]
     BadLine(u64),
-    /// The triples of the pages have more distinct terms than the limit.
+    /// What is stored of the pages' triples has more distinct terms than the limit. A world that isn't lean stores them all.
     #[error("the store is full")]
     Full,
     /// A request for memory was refused.

@@ -1,6 +1,6 @@
 // What is told of a drill.
 
-ghost use Rattle.std.specs.Prelude.{◌≡◌, ◌++◌, ◌∷◌, [], IfOk, OnOk, map, string_bytes};
+ghost use Rattle.std.specs.Prelude.{◌≡◌, ◌++◌, ◌∷◌, [], false, IfOk, OnOk, map, string_bytes};
 ghost use Rattle.replay_model.specs.Union.{union};
 ghost use Rattle.rdf_term.specs.Order.{triple_cmp};
 ghost use Rattle.entity_model.specs.declared.mapping.MappingVersion.TheVariants.{One};
@@ -31,7 +31,8 @@ pub struct Summary {
     pub digest: [u8; 16],
 }
 
-/// What is told of a drill whose deliveries were counted so, by the world at its end, all of which is mapped by the first version.
+/// What is told of a drill whose deliveries were counted so, by the world at its end, all of which is mapped by the first version. The world isn't
+/// lean.
 pub fn summarize(
     alloc: Global,
     size: u32,
@@ -41,6 +42,7 @@ pub fn summarize(
     requires counted { Counted (drill size) counts }
     requires world { world.now.replay ≡ drilled size }
     requires first { IsByFirst world.now }
+    requires whole { world.now.limit.lean ≡ false }
     ensures { IfOk result (λ summary. summary ≡ summary_of size) }
 {
     let kept = kept(world)?;
@@ -107,7 +109,8 @@ fn push_digest(alloc: Global, digest: &[u8; 16], lines: &mut Vec<String>) -> Res
 
 // The triples of all that is held, by version One of the mapping.
 fn rows(world: &World) -> Result<Rows<'_>, OutOfMemory>
-    requires { IsByFirst world.now }
+    requires first { IsByFirst world.now }
+    requires whole { world.now.limit.lean ≡ false }
     ensures { IfOk result (λ rows. rows ≡ union triple_cmp (meaning One) world.now.replay.played.records) }
 {
     world.rows()

@@ -6,12 +6,12 @@ use Rattle.replay_model.specs.{Records.Bytes}
 use Rattle.snapshot.specs.{File.saved_in_bytes, Whole.Saved}
 use Rattle.checkpoint.specs.Saved.{saved_of, world_of}
 use Rattle.world.specs.WorldState.{WorldState}
-use Rattle.arguments.specs.Options.{FollowChoices, SplitChoices, folder_of, follow_max_bytes_of, max_terms_of}
+use Rattle.arguments.specs.Options.{FollowChoices, SplitChoices, folder_of, follow_max_bytes_of}
 use Rattle.arguments.specs.{Plan.plan_of, declared.plan.Plan.Plan}
 use Rattle.arguments.specs.declared.plan.Plan.TheVariants.{Replay, Drill, Patches, Follow, Split}
 use Rattle.run_model.specs.declared.status.Status.TheVariants.{Ok as EndedWell, BadWords, OutOfMemory}
 use Rattle.run_model.specs.Headline.{Ending}
-use Rattle.run_model.specs.Moment.{Moment, Run, behind}
+use Rattle.run_model.specs.Moment.{Moment, Run, behind, limit_of}
 use Rattle.run_model.specs.Resuming.{IsResumed, ResumeEnding, RunEnding, with_loaded}
 use Rattle.run_model.proofs.Reading.{at_known}
 use Rattle.following.specs.{Following.Ending as FollowedWell, Following.replica_text, Reading.AreRecords}
@@ -68,7 +68,7 @@ module _ (law : AreSameAgain) (lent : Lent) (printed again : List ℕ) (kept kep
       one_saved = let same : Some (saved_of first.world first.numbers) ≡ Some (saved_of second.world second.numbers) = sym is_saved ∙ is_saved_again in cc
 
       one_world : first.world ≡ second.world
-      one_world = first.loaded.is ∙ ap (world_of (max_terms_of run.choices)) one_saved ∙ sym second.loaded.is
+      one_world = first.loaded.is ∙ ap (world_of (limit_of run.choices)) one_saved ∙ sym second.loaded.is
 
       one_count : first.numbers ≡ second.numbers
       one_count = ap (λ (s : Saved). s.counts) one_saved

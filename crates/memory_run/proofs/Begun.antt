@@ -14,6 +14,7 @@ use Rattle.run_model.specs.declared.status.Status.TheVariants.{BadWords, OutOfMe
 use Rattle.session.specs.Plans.{DrillEnding, FollowEnding, IsNotUnderstood, IsRunOf, MaySave}
 use Rattle.memory_run.specs.Runs.{HasNoFaults, IsAfter, IsBefore, IsRun, Lent}
 use Rattle.rdf_term.specs.Limits.{default_max_terms}
+use Rattle.world.specs.Limit.{whole}
 
 -- a list without an element
 none_left : {A : Type 0} (xs : List A) → length xs ≡ 0 → xs ≡ []
@@ -50,7 +51,7 @@ module _ {S R K F : Type 0} (input : SourceOf S) (source : RevisionsOf R) (sink 
       × IsByFirst now × (new ≡ record old { out = new.out }))
       → ((choices : FollowChoices) → plan_of lent.words ≡ Some (Follow choices) →
       FollowEnding status choices (follow_moment input sink old.events old.out) (follow_moment input sink new.events new.out)
-      × (new ≡ record old { events = new.events; out = new.out }) × (now ≡ record world { limit = default_max_terms }))
+      × (new ≡ record old { events = new.events; out = new.out }) × (now ≡ record world { limit = whole default_max_terms }))
       → ((plan : Plan) → plan_of lent.words ≡ Some plan → MaySave plan status ⊎ (new.snapshot ≡ old.snapshot))
       → IsRun lent status printed kept
   is_run begun left none none_now refused words bad_words replay drill follow unsaved = record {

@@ -6,8 +6,10 @@ use Rattle.sorted_sets.specs.Rising.{IsRising, difference, has}
 use Rattle.sorted_sets.proofs.{Bools.clash, Filtering.has-difference, Rising.has_itself, Rising.same_rising}
 use Rattle.rdf_term.specs.{declared.triple.Triple.Triple, Order.triple_cmp, Order.triple_cmp-total}
 use Rattle.rdf_term.proofs.Texts.{triple_cmp-IsAntisymmetric}
-use Rattle.triple_store.specs.declared.telling.Change.{Change}
-use Rattle.holders.specs.Changing.{IsChangeOf}
+use Rattle.triple_store.specs.{declared.telling.Change.Change, declared.telling.Telling.Telling, declared.telling.Told.Told, Telling.is_changed, Telling.tells_change}
+use Rattle.triple_store.specs.declared.telling.Telling.TheVariants.{Nothing}
+use Rattle.triple_store.specs.declared.telling.Told.TheVariants.{Nothing as NothingTold, Whether as ToldWhether, Change as ToldChange}
+use Rattle.holders.specs.Changing.{IsChangeOf, Tells}
 use Rattle.replica.specs.{Head.head_line, Record.record_text}
 use Rattle.replica.proofs.Records.{record_parts}
 use Rattle.text_output.specs.{declared.write.Unwritten.Unwritten, declared.write.Unwritten.TheVariants.OutOfMemory}
@@ -96,6 +98,12 @@ pub told_text : (number : ℕ) (before after : List Triple) (change : Change) �
 told_text number before after change is =
     (λ i. (head_line (record { number = number; adds = is.came.count i; removes = is.gone.count i }) ++ 10 ∷ []) ++ (is.came.text i ++ is.gone.text i))
     ∙ sym (record_parts (record_of_step number (step before after)))
+
+-- what is told of a step says whether it changed something, where anything was asked
+pub told_changed : (telling : Telling) (before after : List Triple) (told : Told) → Tells telling before after told → (telling ≡ Nothing → ⊥) → tells_change told ≡ is_changed before after
+told_changed telling before after NothingTold tells asked = sym (still before after (tells asked))
+told_changed telling before after (ToldWhether changed) tells asked = tells.1
+told_changed telling before after (ToldChange change) tells asked = sym (by_lines before after change tells.1)
 
 -- ---- the record of a step
 

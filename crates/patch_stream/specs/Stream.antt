@@ -2,8 +2,8 @@
 use Rattle.std.specs.Prelude.{◌≡◌, ℕ, ◌+◌, ◌≤◌, Bool, true, false, cond, List, [], ◌∷◌, ◌++◌, Option, Result, IfOk, MatchResult, filter, flat_map, length}
 use Rattle.std.specs.List.{list_any}
 use Rattle.wq_io.specs.Streams.{after_known}
-use Rattle.sorted_sets.specs.Rising.{difference}
-use Rattle.rdf_term.specs.{declared.triple.Triple.Triple, Order.triple_cmp}
+use Rattle.sorted_sets.specs.Rising.{difference, sorted}
+use Rattle.rdf_term.specs.{declared.triple.Triple.Triple, Order.triple_cmp, Text.triple_text}
 use Rattle.entity_model.specs.{declared.id.EntityId.EntityId, declared.event.Event.Event, declared.mapping.MappingVersion.MappingVersion}
 use Rattle.delivery.specs.{declared.Delivery.Delivery, declared.Delivery.TheVariants.Watermark, declared.Delivery.TheVariants.Mapping}
 use Rattle.replay_model.specs.Acceptance.{Arrival, arrivals, version_in_force}
@@ -116,3 +116,7 @@ pub record TellsStep (told : ℕ) (s : Step) (old new : Output) (result : Result
 -- the text of the record with this number that tells a change
 abbrev pub change_text : ℕ → Change → List ℕ
 change_text number change = (head_line (record { number = number; adds = change.came.count; removes = change.gone.count }) ++ 10 ∷ []) ++ (change.came.text.items ++ change.gone.text.items)
+
+-- the lines of the triples of both lists, in order, each once
+abbrev pub merged_text : List Triple → List Triple → List ℕ
+merged_text some others = flat_map triple_text (sorted triple_cmp (some ++ others))

@@ -8,4 +8,4 @@ mod laws;
 mod printing;
 
 pub use laws::{changes_are_told_by_records, changes_differ};
-pub use printing::print_step;
+pub use printing::{changes_something, print_step};

@@ -19,7 +19,7 @@ use Rattle.run_model.specs.{declared.report.Report.Report, declared.report.Repor
 use Rattle.run_model.specs.{declared.report.Report.TheVariants.Answers, declared.report.Report.TheVariants.Changes, declared.stop.Halt.Halt}
 use Rattle.run_model.specs.{declared.stop.Halt.TheVariants.Unapplied as NotApplied, declared.stop.Stop.TheVariants.OutOfMemory}
 use Rattle.run_model.specs.Course.{along, state_along, steps_of_delivery, answer_by, answer_held, answer_of_delivery, answer_text, said_by, Course, course_after, course_begun, course_remapping, course_to_end, led_to, said_behind, version_at}
-use Rattle.run_model.specs.Remapping.{HaveRoom, HaveRoomBefore, needed_anew, needed_of_delivery, needed_by_due, KeepsVersion, Mapped, mapped_by}
+use Rattle.run_model.specs.Remapping.{HaveRoom, HaveRoomBefore, needed_anew, needed_of_delivery, needed_by_due, KeepsVersion, Mapped, Need, mapped_by}
 use Rattle.run_model.specs.{Report.HasReported, Stop.stop_of_halt, Stop.stop_of_unwritten, Taking.IsWithin, Taking.judgement}
 use Rattle.run_model.specs.Delivering.{AnswersQuestion, HasAnswered, TellsBy, AppliesDue, AtEnd, AtRest, CutsOff, IsHeldUp, Leads, RemapsPages, StaysWithin, turn}
 use Rattle.text_output.specs.{declared.write.Unwritten.Unwritten, Printing.Output}
@@ -170,7 +170,7 @@ module _ (environment : Environment) (ds : List Delivery) (start : Beginning) wh
   mark_room : (now : Stage) (reported : Reported) (m : ℤ) (at_rest : AtRest environment ds reported start now) (others : Replies) → AgreeOnApplied now.world at_rest.leads.explained.replies others →
       HaveRoomBefore environment.limit (needed_by_due (version_at (ds ++ Watermark m ∷ []) start) others (after_mark now.world m)) (along needed_of_delivery others (standing start) (ds ++ Watermark m ∷ []))
   mark_room now reported m at_rest others agree =
-      let first : List ℕ = along needed_of_delivery others (standing start) ds in
+      let first : List Need = along needed_of_delivery others (standing start) ds in
       first_met environment.limit (needed_by_due (version_at (ds ++ Watermark m ∷ []) start) others (after_mark now.world m)) (along needed_of_delivery others (standing start) (ds ++ Watermark m ∷ [])) first
       (needed-watermark others (standing start) ds m
       ∙ ap (λ w. first ++ needed_by_due (version_at ds start) others (after_mark w m)) (sym (rest_is now reported at_rest others agree))
@@ -194,7 +194,7 @@ module _ (environment : Environment) (ds : List Delivery) (start : Beginning) wh
   end_room : (now : Stage) (reported : Reported) (at_rest : AtRest environment ds reported start now) (others : Replies) → AgreeOnApplied now.world at_rest.leads.explained.replies others →
       HaveRoomBefore environment.limit (needed_by_due (version_at ds start) others (after_end now.world)) (along needed_of_delivery others (standing start) ds ++ needed_by_due (version_at ds start) others (after_end (led_to ds start others)))
   end_room now reported at_rest others agree =
-      let first : List ℕ = along needed_of_delivery others (standing start) ds in
+      let first : List Need = along needed_of_delivery others (standing start) ds in
       first_met environment.limit (needed_by_due (version_at ds start) others (after_end now.world)) (along needed_of_delivery others (standing start) ds ++ needed_by_due (version_at ds start) others (after_end (led_to ds start others))) first
       (ap (λ w. first ++ needed_by_due (version_at ds start) others (after_end w)) (sym (rest_is now reported at_rest others agree)))
       (rest_room now reported at_rest others agree)
@@ -398,7 +398,7 @@ module _ (environment : Environment) (ds : List Delivery) (start : Beginning) wh
       subst (λ (w : ReplayState). HaveRoom environment.limit (needed_anew w.played.records (record { version = v; by_two = all_by (version_at ds start) w.played.records }))) (rest_is now reported at_rest others agree) by_version in
       none_left environment.limit (needed_by_due (version_at (ds ++ Mapping v ∷ []) start) others now.world) (along needed_of_delivery others (standing start) (ds ++ Mapping v ∷ []))
       (due-none (version_at (ds ++ Mapping v ∷ []) start) others now.world at_rest.rests)
-      (subst (HaveRoom environment.limit) (sym (needed-mapping others (standing start) ds v)) (Each-append (λ n. n ≤ environment.limit) _ _ (rest_room now reported at_rest others agree) anew))
+      (subst (HaveRoom environment.limit) (sym (needed-mapping others (standing start) ds v)) (Each-append (λ (need : Need). need environment.limit.lean ≤ environment.limit.terms) _ _ (rest_room now reported at_rest others agree) anew))
 
   -- its pages are the steps behind those so far
   anew_steps : (now : Stage) (v : MappingVersion) (others : Replies) (first : List Step) → first_due now.world.buffer ≡ None → now.mapped ≡ mapped_by (version_at ds start) now.world.played.records → now.world ≡ led_to ds start others →

@@ -20,10 +20,11 @@ use Rattle.world.specs.{declared.applied.AppliedEvent.AppliedEvent, declared.app
 use Rattle.world.specs.declared.applied.Outcome.TheVariants.{Same, Dropped}
 use Rattle.text_output.specs.{declared.write.Unwritten.Unwritten, Printing.Output}
 use Rattle.patch_stream.specs.Stream.{Step, step, steps_due}
+use Rattle.world.specs.Limit.{Limit}
 use Rattle.run_model.specs.Moment.{SourceCounts, HasCounted, HasCountedUnapplied, HasGoneOn, RoseBy, Beginning, Environment, Stage, onward, environment, stage_in, with_mapped, with_world}
 use Rattle.run_model.specs.{Course.Course, declared.report.Report.Report, declared.report.Reported.Reported, declared.report.Report.TheVariants.Answers}
 use Rattle.run_model.specs.declared.stop.Halt.TheVariants.{Unapplied as NotApplied, Unprinted}
-use Rattle.run_model.specs.Remapping.{HaveRoom, HaveRoomBefore, needed_by, needed_by_due, needed_for, KeepsVersion, Mapped, held_triples, mapped_by}
+use Rattle.run_model.specs.Remapping.{HaveRoom, HaveRoomBefore, needed_by, needed_by_due, needed_for, KeepsVersion, Mapped, Need, held_triples, mapped_by}
 use Rattle.run_model.specs.Report.{HasReported, HasReportedAt}
 use Rattle.run_model.specs.Taking.{HoldsDocuments, IsWithin, judgement, replies_there}
 use Rattle.run_model.specs.Delivering.{TellsStepBy, AppliesDue, IsUnderWay, Leads, StaysWithin}
@@ -47,7 +48,7 @@ pub record Rises (outcome : Outcome) (before now : SourceCounts) : Type 0 where
   pub more_misses : before.misses ≤ now.misses
 
 -- a reply that agrees with what the source has is honest
-pub reply_is_honest : (routes : Option (List Route)) (report : Report) (contents : Option Contents) (folder : List ℕ) (limit : ℕ) (x : EntityId) (r : ℕ) (reply : Result Bytes Cause) →
+pub reply_is_honest : (routes : Option (List Route)) (report : Report) (contents : Option Contents) (folder : List ℕ) (limit : Limit) (x : EntityId) (r : ℕ) (reply : Result Bytes Cause) →
     IsReply contents folder x r reply → (there : ℕ → Option Bytes) → (environment routes report contents folder limit).known ≡ Some there →
     (reply ≡ Err Failed) ⊎ (reply ≡ reply_there judgement x (there r))
 reply_is_honest routes report None folder limit x r reply is there known = cc
@@ -147,7 +148,7 @@ pub record LeadsOn (environment : Environment) (course : Course) (reported : Rep
   pub first : (others : Replies) → AgreeOnApplied now.world explained.replies others → steps_due course.version others before.world ≡ step_between before now ∷ steps_due course.version others now.world
 
 -- an application
-pub record IsApplied (contents : Option Contents) (folder : List ℕ) (limit : ℕ) (before now : Stage) : Type 0 where
+pub record IsApplied (contents : Option Contents) (folder : List ℕ) (limit : Limit) (before now : Stage) : Type 0 where
   pub applied : AppliedEvent
   pub applies : Applies contents folder before.world now.world applied
   pub rises : Rises applied.outcome before.counts now.counts
@@ -156,7 +157,7 @@ pub record IsApplied (contents : Option Contents) (folder : List ℕ) (limit : �
       HaveRoom limit (cond (is_fetching before.world applied.event) (needed_for version before.world.played.records applied.event.entity (revision_wanted before.world applied.event) applies.reply) [])
 
 -- the world still leads to its play, one application further
-applies-on : (routes : Option (List Route)) (report : Report) (contents : Option Contents) (folder : List ℕ) (limit : ℕ) (before now : Stage) → IsApplied contents folder limit before now →
+applies-on : (routes : Option (List Route)) (report : Report) (contents : Option Contents) (folder : List ℕ) (limit : Limit) (before now : Stage) → IsApplied contents folder limit before now →
     (course : Course) (reported : Reported) (start : Beginning) → before.mapped ≡ mapped_by course.version before.world.played.records →
     (x : Leads (environment routes report contents folder limit) course reported start before) → LeadsOn (environment routes report contents folder limit) course reported start before now x
 applies-on routes report contents folder limit before now is course reported start is_mapped x =
@@ -181,7 +182,7 @@ applies-on routes report contents folder limit before now is course reported sta
       agree_before = next.agree_before;
       is_next = next.is_next;
       roomed = λ others agree.
-          let needed_now : List ℕ = needed_by course.version others old.played.records e (record_of old.played.records e.entity) in
+          let needed_now : List Need = needed_by course.version others old.played.records e (record_of old.played.records e.entity) in
           next_met limit (needed_by_due course.version others (next_by old e a.reply)) (course.needed others) needed_now (needed_by_due course.version others old)
           (due-some course.version others old e a.due ∙ ap (λ w. needed_now ++ needed_by_due course.version others w) (sym (same others agree)))
           (room_replied old e limit course.version a.reply others (same others agree) (is.has_room course.version is_mapped))
@@ -197,7 +198,7 @@ applies-on routes report contents folder limit before now is course reported sta
     subst There (sym a.new_is) there
 
 -- and it is told
-pub applies-leads : (routes : Option (List Route)) (report : Report) (contents : Option Contents) (folder : List ℕ) (limit : ℕ) (reported reported_now : Reported) (before now : Stage) → IsApplied contents folder limit before now →
+pub applies-leads : (routes : Option (List Route)) (report : Report) (contents : Option Contents) (folder : List ℕ) (limit : Limit) (reported reported_now : Reported) (before now : Stage) → IsApplied contents folder limit before now →
     TellsStepBy report reported (step_between before now) before.output now.output (Ok reported_now) → Goes (environment routes report contents folder limit) reported reported_now before now
 applies-leads routes report contents folder limit reported reported_now before now is tells = record {
   leads = λ course begun start is_mapped under_way.
@@ -316,7 +317,7 @@ within why environment course begun reported start now counts last under_way =
     }
 
 -- an event was applied, and isn't told wholly
-within_unprinted : (routes : Option (List Route)) (report : Report) (why : Unwritten) (contents : Option Contents) (folder : List ℕ) (limit : ℕ) (course : Course) (begun : Replies → ReplayState) (reported : Reported) (start : Beginning) (before now : Stage) →
+within_unprinted : (routes : Option (List Route)) (report : Report) (why : Unwritten) (contents : Option Contents) (folder : List ℕ) (limit : Limit) (course : Course) (begun : Replies → ReplayState) (reported : Reported) (start : Beginning) (before now : Stage) →
     (u : IsUnderWay (environment routes report contents folder limit) course begun reported start before) → LeadsOn (environment routes report contents folder limit) course reported start before now u.leads →
     TellsStepBy report reported (step_between before now) before.output now.output (Err why) → IsWithin (Unprinted why) (environment routes report contents folder limit) course begun start now
 within_unprinted routes report why contents folder limit course begun reported start before now u on tells =
@@ -373,7 +374,7 @@ starved why environment reported reported_now before out now last world new goes
     rw same (λ course begun start is_mapped under_way. within why environment course begun reported_now start (stage_in out now world) last lasts (goes.leads course begun start is_mapped under_way))
 
 -- an event is applied, and isn't told wholly
-pub unprinted : (routes : Option (List Route)) (report : Report) (why : Unwritten) (contents : Option Contents) (folder : List ℕ) (limit : ℕ) (reported between : Reported) (before middle now : Stage) → KeepsVersion before.mapped middle.mapped before.world.played.records middle.world.played.records →
+pub unprinted : (routes : Option (List Route)) (report : Report) (why : Unwritten) (contents : Option Contents) (folder : List ℕ) (limit : Limit) (reported between : Reported) (before middle now : Stage) → KeepsVersion before.mapped middle.mapped before.world.played.records middle.world.played.records →
     Goes (environment routes report contents folder limit) reported between before middle → IsApplied contents folder limit middle now → TellsStepBy report between (step_between middle now) middle.output now.output (Err why) →
     StaysWithin (Unprinted why) (environment routes report contents folder limit) reported before now
 unprinted routes report why contents folder limit reported between before middle now keeps goes is tells = λ course begun start is_mapped under_way.

@@ -21,6 +21,7 @@ use Rattle.text_output.specs.declared.write.Unwritten.TheVariants.{WriteFault as
 use Rattle.text_output.specs.Printing.{Output, Prints}
 use Rattle.checkpoint.specs.Archive.{Archive}
 use Rattle.patch_stream.specs.Stream.{Step, changes, has_change, steps_due}
+use Rattle.world.specs.Limit.{Limit}
 use Rattle.run_model.specs.Moment.{RoseBy, HasCounted, Beginning, IsFirst, Moment, Run, Environment, Stage, horizon_at, start_of, with_output, sections_of, numbers_after, numbers_of, reported_as, up_to_saves}
 use Rattle.run_model.specs.Course.{Course, course_after, course_ended, course_to_end, version_at, closing_by, closing_held}
 use Rattle.run_model.specs.Headline.{BrokenOff, HasFates, HasReplayed, HoldsRightly, IsInterrupted, IsUnsaved, KeepsOnTheWay, IsPlayed, IsReplayed, NamesRightly, StandsAtMapping, StandsAtPage, Stopped, IsHalted}
@@ -227,7 +228,7 @@ left_stale NoRoom run before now full stands = inr (full, stands)
 left_stale PoolOutOfMemory run before now stale stands = inl (inl (inr stands))
 
 -- a page was remapped, and not told wholly
-pub page_unprinted : (why : Unwritten) (run : Run) (before now : Moment) (limit : ℕ) (records : Records) (between : Output) → before.stage.output.faults ≤ between.faults →
+pub page_unprinted : (why : Unwritten) (run : Run) (before now : Moment) (limit : Limit) (records : Records) (between : Output) → before.stage.output.faults ≤ between.faults →
     IsLeft (Unprinted why) limit records now.stage.mapped between now.stage.output → StandsAtPage why run before now → Stopped (stop_of_unwritten why) run before now
 page_unprinted NotWritten run before now limit records between earlier rose stands = inl (rose_since before.stage.output.faults between.faults now.stage.output.faults earlier rose, inr (inr stands))
 page_unprinted UnwrittenOutOfMemory run before now limit records between earlier rose stands = inl (inr (inr (inr stands)))

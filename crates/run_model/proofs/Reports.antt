@@ -1,13 +1,12 @@
 -- What is reported of a play, step by step.
-use Rattle.std.proofs.Common.{◌≡◌, refl, sym, subst, ◌∙◌, ap, ℕ, ◌+◌, ◌≤◌, ℤ, Bool, true, false, ◌||◌, cond, List, [], ◌∷◌, ◌++◌, append_assoc, append-nil, length, length-append, filter, Option, None, Some, Ok, Err, flat_map, arith}
+use Rattle.std.proofs.Common.{◌≡◌, ◌≢◌, refl, sym, subst, ◌∙◌, ap, ℕ, ◌+◌, ◌≤◌, ℤ, Bool, true, false, ◌||◌, cond, List, [], ◌∷◌, ◌++◌, append_assoc, append-nil, length, length-append, filter, Option, None, Some, Ok, Err, flat_map, arith}
 use Rattle.std.proofs.{lemmas.List.Concat.flat_map-append, lemmas.List.Elements.filter-append, lemmas.List.Folds.list_any-append}
 use Rattle.wq_io.specs.Streams.{after_known}
 use Rattle.sorted_sets.proofs.FirstPassing.{filter-first, filter-none}
 use Rattle.rdf_term.specs.{declared.triple.Triple.Triple, Order.triple_cmp}
-use Rattle.triple_store.specs.{declared.telling.Told.Told, Telling.tells_change}
-use Rattle.triple_store.specs.declared.telling.Telling.TheVariants.{Nothing, Whether, Change as TheChange}
-use Rattle.triple_store.specs.declared.telling.Told.TheVariants.{Nothing as NothingTold, Whether as ToldWhether, Change as ToldChange}
-use Rattle.holders.specs.Changing.{Tells}
+use Rattle.triple_store.specs.{declared.telling.Telling.Telling, Telling.is_changed}
+use Rattle.triple_store.specs.declared.telling.Telling.TheVariants.{Nothing, Whether}
+use Rattle.world.specs.{Held.TellsChange, declared.applied.StepChange.StepChange}
 use Rattle.delivery.specs.{declared.Delivery.Delivery, declared.Delivery.TheVariants.Watermark, declared.Delivery.TheVariants.Mapping}
 use Rattle.entity_model.specs.{declared.event.Event.Event, declared.mapping.MappingVersion.MappingVersion}
 use Rattle.reorder_buffer.specs.{Watermarks.is_due, Buffered.first_due}
@@ -19,7 +18,7 @@ use Rattle.text_output.specs.declared.write.Unwritten.TheVariants.{WriteFault, O
 use Rattle.text_output.specs.Printing.{IsCutShort, Output}
 use Rattle.replica.specs.Record.{record_text}
 use Rattle.patch_stream.specs.Stream.{Step, changes, has_change, is_change, numbered_from, record_of_step, step, step_text, steps_anew, steps_applied, steps_due, told_after}
-use Rattle.patch_stream.proofs.{Streams.numbered-append, Texts.still}
+use Rattle.patch_stream.proofs.Streams.{numbered-append}
 use Rattle.text_output.proofs.Parts.{after_twice}
 use Rattle.replay_parts.specs.Checkpoint.{Checkpoint}
 use Rattle.run_model.specs.{declared.report.Report.Report, declared.report.Reported.Reported}
@@ -111,18 +110,15 @@ changed_next changed now steps s was is = is ∙ ap (λ b. b || is_change s) was
 pub changed_with : (changed now : Bool) (steps more : List Step) → changed ≡ has_change steps → now ≡ (changed || has_change more) → now ≡ has_change (steps ++ more)
 changed_with changed now steps more was is = is ∙ ap (λ b. b || has_change more) was ∙ sym (list_any-append is_change steps more)
 
-told_alone : (before after : List Triple) (told : Told) → Tells Whether before after told → tells_change told ≡ is_change (step before after)
-told_alone before after NothingTold same = sym (still before after (same (λ e. absurd cc)))
-told_alone before after (ToldWhether changed) tells = tells.1
-told_alone before after (ToldChange change) tells = let never : Whether ≡ TheChange = tells.0 in cc
-
 -- what is told of a step says whether it changed what is stored, unless one did before
-pub told_change : (reported : Reported) (before after : List Triple) (told : Told) → Tells (telling_of Answers reported) before after told → (reported.changed || tells_change told) ≡ (reported.changed || is_change (step before after))
-told_change reported before after told = by reported.changed
+pub told_change : (reported : Reported) (before after : List Triple) (change : StepChange) (differs : Bool) →
+    ((telling : Telling) (old new : List Triple) → TellsChange telling old new change → telling ≢ Nothing → differs ≡ is_changed old new) →
+    TellsChange (telling_of Answers reported) before after change → (reported.changed || differs) ≡ (reported.changed || is_change (step before after))
+told_change reported before after change differs says = by reported.changed
   where
-    by : (changed : Bool) → Tells (cond changed Nothing Whether) before after told → (changed || tells_change told) ≡ (changed || is_change (step before after))
+    by : (changed : Bool) → TellsChange (cond changed Nothing Whether) before after change → (changed || differs) ≡ (changed || is_change (step before after))
     by true tells = refl
-    by false tells = told_alone before after told tells
+    by false tells = says Whether before after tells (λ never. cc)
 
 -- ---- what is reported
 

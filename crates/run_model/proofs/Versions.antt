@@ -5,18 +5,18 @@ use Rattle.rdf_term.specs.Order.{triple_cmp}
 use Rattle.entity_model.specs.{declared.id.EntityId.EntityId, declared.mapping.MappingVersion.MappingVersion}
 use Rattle.entity_state.specs.declared.record.Held.{Held}
 use Rattle.revisions.specs.Revisions.{Contents}
-use Rattle.replay_model.specs.{Records.Bytes, Records.Records, Records.record_of, ReplayState.ReplayState, Union.triples_held, Union.union}
+use Rattle.replay_model.specs.{Records.Bytes, Records.Records, Records.record_of, ReplayState.ReplayState, Union.union}
 use Rattle.replay_model.specs.Versions.{all_by, is_holder, meaning_by}
 use Rattle.replay_model.proofs.Versions.{union-all}
-use Rattle.holders.specs.Roomed.{room_with}
 use Rattle.world.specs.Applying.{Applies}
 use Rattle.holders.specs.Holding.{AreHolders, first_of}
-use Rattle.world.specs.WorldState.{WorldState, next_stale, remapped, by_two_after, stale, triples_anew, triples_of}
+use Rattle.world.specs.{Limit.Limit, Roomed.needs_anew, Roomed.needs_at, Roomed.needs_now}
+use Rattle.world.specs.WorldState.{WorldState, next_stale, remapped, by_two_after, stale}
 use Rattle.world.specs.declared.applied.AppliedEvent.{AppliedEvent}
 use Rattle.fetched_pages.specs.Meaning.{meaning}
 use Rattle.world.proofs.OneVersion.{applied_by_one}
 use Rattle.run_model.specs.Remapping.{HaveRoom, HaveRoomBefore, needed_anew, needed_by_pages, IsFullOfStale, KeepsVersion, Mapped, held_triples, mapped_by, mapped_in, remapped_in, remapped_some}
-use Rattle.run_model.proofs.Needed.{all_met, first_met, remapped_has_room}
+use Rattle.run_model.proofs.Needed.{all_met, anew_has_room, first_met}
 
 -- where every page is mapped by one version, the triples of all that is held are the union by this version
 pub all_held_by : (version : MappingVersion) (mapped : Mapped) (records : Records) → mapped ≡ mapped_by version records → held_triples mapped records ≡ union triple_cmp (meaning version) records
@@ -59,7 +59,7 @@ passes_both {A} p q (y ∷ ys) x rest is = by (passes_both p q ys x rest) (q y) 
     by later false fails same = later same
 
 -- where the page of the least stale entity has no room, the store is full
-pub full_of_stale : (w : WorldState) → 0 < length (stale w) → w.limit < room_with (meaning_by meaning w.by_two) w.replay.played.records (triples_anew w) →
+pub full_of_stale : (w : WorldState) → 0 < length (stale w) → w.limit.terms < needs_anew w →
     IsFullOfStale w.limit w.replay.played.records (mapped_in w)
 full_of_stale w some over = by (stale w) refl some
   where
@@ -73,7 +73,7 @@ full_of_stale w some over = by (stale w) refl some
       next = next;
       page = page;
       holds = is;
-      over = subst (λ triples. w.limit < room_with (meaning_by meaning w.by_two) records triples) (ap (triples_of (meaning w.mapping) records) next ∙ ap (triples_held (meaning w.mapping) x) is) over;
+      over = subst (λ n. w.limit.terms < n) (ap (needs_at w) next ∙ ap (needs_now w x) is) over;
     }
 
     by : (xs : List EntityId) → stale w ≡ xs → 0 < length xs → IsFullOfStale w.limit records (mapped_in w)
@@ -104,7 +104,7 @@ remaps_none version old now is are = record {
 
 -- and one more
 pub remaps_next : (version : MappingVersion) (old now new : WorldState) → Remaps version old now → new ≡ remapped now → AreHolders new.by_two new.replay.played.records →
-    room_with (meaning_by meaning now.by_two) now.replay.played.records (triples_anew now) ≤ now.limit → Remaps version old new
+    needs_anew now ≤ now.limit.terms → Remaps version old new
 remaps_next version old now new so_far is are within = record {
   replay = ap (λ (w : WorldState). w.replay) is ∙ so_far.replay;
   limit = ap (λ (w : WorldState). w.limit) is ∙ so_far.limit;
@@ -113,7 +113,7 @@ remaps_next version old now new so_far is are within = record {
   version_is = ap (λ (w : WorldState). w.mapping) is ∙ so_far.version_is;
   holders = are;
   roomed = subst (λ (w : WorldState). HaveRoomBefore old.limit (needed_anew w.replay.played.records (mapped_in w)) (needed_anew old.replay.played.records (record { version = version; by_two = old.by_two }))) (sym is)
-      (remapped_has_room old.limit _ now so_far.holders.rising (subst (λ n. room_with (meaning_by meaning now.by_two) now.replay.played.records (triples_anew now) ≤ n) so_far.limit within) so_far.roomed);
+      (anew_has_room old.limit _ now so_far.holders.rising so_far.limit within so_far.roomed);
 }
 
 -- all of them
@@ -141,7 +141,7 @@ remaps_all_roomed version old now so_far none =
 
 -- the next one has no room
 pub remaps_full : (version : MappingVersion) (old now new : WorldState) → Remaps version old now → new ≡ now → 0 < length (stale now) →
-    now.limit < room_with (meaning_by meaning now.by_two) now.replay.played.records (triples_anew now) → IsFullOfStale old.limit old.replay.played.records (mapped_in new)
+    now.limit.terms < needs_anew now → IsFullOfStale old.limit old.replay.played.records (mapped_in new)
 remaps_full version old now new so_far same some over =
-    let Full : ℕ → ReplayState → Type 0 = λ n w. IsFullOfStale n w.played.records (mapped_in new) in
-    subst (λ n. Full n old.replay) so_far.limit (subst (Full now.limit) so_far.replay (rw same (full_of_stale now some over)))
+    let Full : Limit → ReplayState → Type 0 = λ l w. IsFullOfStale l w.played.records (mapped_in new) in
+    subst (λ l. Full l old.replay) so_far.limit (subst (Full now.limit) so_far.replay (rw same (full_of_stale now some over)))

@@ -11,7 +11,7 @@ use Rattle.replay_model.specs.Transcript.{Sections, Question, answer_section, cl
 use Rattle.replay_model.specs.{Records.Records, Union.Meaning, Union.union, Versions.meaning_by, Versions.all_by}
 use Rattle.graph_routes.specs.declared.routes.Route.{Route}
 use Rattle.patch_stream.specs.Stream.{Step, steps_due, is_change, numbered_from, steps_anew}
-use Rattle.run_model.specs.{Moment.Beginning, Moment.standing, Remapping.needed_of_delivery, Remapping.needed_by_due, Remapping.Mapped}
+use Rattle.run_model.specs.{Moment.Beginning, Moment.standing, Remapping.needed_of_delivery, Remapping.needed_by_due, Remapping.Mapped, Remapping.Need}
 use Rattle.rdf_term.specs.{declared.triple.Triple.Triple, Order.triple_cmp, Pattern.rows}
 use Rattle.subgraph.specs.{Laws.routed_union, Sections.graph_answers, Sections.graph_sections}
 use Rattle.fetched_pages.specs.Meaning.{meaning}
@@ -99,7 +99,7 @@ closing_held (Some known) m sections p = graph_sections known (λ graph. routed_
 pub record Course : Type 0 where
   pub state : Replies → ReplayState
   pub fetched : Replies → List Fetch
-  pub needed : Replies → List ℕ
+  pub needed : Replies → List Need
   pub steps : Replies → List Step
   pub bytes : Replies → Option (List ℕ)
   pub version : MappingVersion

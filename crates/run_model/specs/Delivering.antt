@@ -17,7 +17,7 @@ use Rattle.run_model.specs.{declared.report.Report.Report, declared.report.Repor
 use Rattle.run_model.specs.{declared.report.Report.TheVariants.Answers, declared.report.Report.TheVariants.Changes, declared.stop.Halt.Halt}
 use Rattle.run_model.specs.declared.stop.Halt.TheVariants.{Unapplied, Unprinted}
 use Rattle.run_model.specs.Course.{stream_text_from, Course, answer_held, course_after, course_begun, course_to_end, led_to, version_at, course_ended}
-use Rattle.run_model.specs.Moment.{Beginning, Stage, HasCounted, Environment, Moment, Run, start_of, numbers_of, marks, reported_as, up_to_saves}
+use Rattle.run_model.specs.Moment.{Beginning, Stage, HasCounted, Environment, Moment, Run, limit_of, start_of, numbers_of, marks, reported_as, up_to_saves}
 use Rattle.run_model.specs.declared.stop.Stop.{Stop}
 use Rattle.run_model.specs.Remapping.{HaveRoomBefore, needed_anew, needed_by_due, IsLeftStale, KeepsVersion, Mapped, mapped_by, remapped_some}
 use Rattle.run_model.specs.{Report.HasReported, Stop.stop_of_halt, Stop.stop_of_unwritten, Stop.stop_of_load, Reading.AreDeliveries}
@@ -27,7 +27,8 @@ use Rattle.run_model.specs.Resuming.{IsSnapshotOf, AllowsHorizon, IsRefusedFor}
 use Rattle.entity_model.specs.declared.mapping.MappingVersion.{MappingVersion}
 use Rattle.reorder_buffer.specs.Buffered.{first_due}
 use Rattle.term_pool.specs.declared.fault.PoolFault.TheVariants.{Full, OutOfMemory}
-use Rattle.arguments.specs.Options.{closes, max_bytes_of, Choices, max_terms_of}
+use Rattle.arguments.specs.Options.{closes, max_bytes_of, Choices}
+use Rattle.world.specs.Limit.{Limit}
 use Rattle.graph_routes.specs.declared.routes.Route.{Route}
 
 -- what an application and a remapping tell, where this was reported before them: their change where it is written; otherwise whether there
@@ -200,7 +201,7 @@ pub record TakesInPart (halt : Halt) (environment : Environment) (t : Turn) (bef
       ⊎ IsWithin halt environment (course_begun environment.routes ds (Some t.delivery) start) (λ replies. entered (led_to ds start replies) t.delivery) start now
 
 -- why not all pages were remapped, or the last one isn't told
-abbrev pub IsLeft : Halt → ℕ → Records → Mapped → Output → Output → Type 0
+abbrev pub IsLeft : Halt → Limit → Records → Mapped → Output → Output → Type 0
 IsLeft (Unapplied why) limit records now old new = IsLeftStale why limit records now
 IsLeft (Unprinted WriteFault) limit records now old new = Rose old.faults new.faults
 IsLeft (Unprinted UnwrittenOutOfMemory) limit records now old new = ⊤
@@ -211,7 +212,7 @@ TellsPages (Unapplied why) report reported pages old new = (reported_now : Repor
 TellsPages (Unprinted why) report reported pages old new = (others : List Step) × (last : Step) × (pages ≡ others ++ last ∷ []) × BreaksOffBy report why reported others last old new
 
 -- this version is in force, and the pages of some entities, the least first, are mapped by it, and had room; their steps are told
-pub record RemapsPages (halt : Halt) (report : Report) (limit : ℕ) (reported : Reported) (version : MappingVersion) (records : Records) (before now : Mapped) (old new : Output) : Type 0 where
+pub record RemapsPages (halt : Halt) (report : Report) (limit : Limit) (reported : Reported) (version : MappingVersion) (records : Records) (before now : Mapped) (old new : Output) : Type 0 where
   pub left : IsLeft halt limit records now old new
   pub steps : ℕ
   pub mapped : now ≡ remapped_some steps records (record { version = version; by_two = before.by_two })
@@ -264,7 +265,7 @@ pub record HasTakenAll (run : Run) (numbers : Counts) (before now : Moment) : Ty
 
 -- what a replay begins with that goes on from a snapshot, of which this is left
 pub record IsLoaded (choices : Choices) (left rest : Option (List ℕ)) (routes : Option (List Route)) (replay : Moved) : Type 0 where
-  pub loaded : IsSnapshotOf left (max_terms_of choices) replay.world replay.earlier
+  pub loaded : IsSnapshotOf left (limit_of choices) replay.world replay.earlier
   pub allowed : AllowsHorizon choices replay.world.replay.buffer.horizon
   pub routes_are : replay.routes ≡ routes
   pub read : IsAtEnd rest

@@ -7,7 +7,7 @@ use Rattle.entity_model.specs.declared.mapping.MappingVersion.TheVariants.{One}
 use Rattle.replay_model.specs.{Records.Bytes, ReplayState.ReplayState, ReplayState.nothing_delivered_within, Play.risen_by, Play.Replies}
 use Rattle.replay_model.specs.{Replies.failed_events, Replies.missing_events, Transcript.Sections, Transcript.asks, Transcript.matches}
 use Rattle.replay_parts.specs.Checkpoint.{Checkpoint}
-use Rattle.world.specs.WorldState.{WorldState}
+use Rattle.world.specs.{Limit.Limit, WorldState.WorldState}
 use Rattle.text_output.specs.Printing.{Output, output}
 use Rattle.checkpoint.specs.{Archive.Archive, Archive.archive, Keeping.with_snapshot, declared.snapshots.Snapshots.Ghosts as SnapshotsOf}
 use Rattle.following.specs.Input.{Input, input}
@@ -89,16 +89,16 @@ pub record HaveGoneOn {S R K F : Type 0} (input : SourceOf S) (source : Revision
 
 -- ---- moments
 
--- the environment of the deliveries: what the source of revisions has in its folder, if it is known, the limit on distinct terms, what is
--- reported, and by which routes pages go to graphs, if they are routed
+-- the environment of the deliveries: what the source of revisions has in its folder, if it is known, how many distinct terms there may be,
+-- and of which triples, what is reported, and by which routes pages go to graphs, if they are routed
 pub record Environment : Type 0 where
   pub known : Option (ℕ → Option Bytes)
-  pub limit : ℕ
+  pub limit : Limit
   pub report : Report
   pub routes : Option (List Route)
 
 -- the environment of these routes, of a report, of a source with these contents, of a folder, and of a store with this limit
-abbrev pub environment : Option (List Route) → Report → Option Contents → List ℕ → ℕ → Environment
+abbrev pub environment : Option (List Route) → Report → Option Contents → List ℕ → Limit → Environment
 environment routes report contents folder limit = record { known = option_map (λ (c : Contents). c folder) contents; limit = limit; report = report; routes = routes }
 
 -- what the taking of deliveries changes: the output, the counts of the source of revisions, the world, and the versions by which
@@ -194,16 +194,20 @@ pub record Run : Type 0 where
 abbrev pub start_of : Run → Moment → Beginning
 start_of run before = start_in run.numbered before.stage
 
+-- how many distinct terms a run of these choices has room for, and of which triples
+abbrev pub limit_of : Choices → Limit
+limit_of choices = record { terms = max_terms_of choices; lean = choices.lean }
+
 -- the world that a run of these choices begins with: empty, with the horizon and the limit that were chosen, and with the first
 -- version of the mapping
 abbrev pub world_at_start : Choices → WorldState
-world_at_start choices = record { replay = nothing_delivered_within choices.horizon; limit = max_terms_of choices; mapping = One; by_two = [] }
+world_at_start choices = record { replay = nothing_delivered_within choices.horizon; limit = limit_of choices; mapping = One; by_two = [] }
 
 -- the first run of these choices over a source with these contents, of which this is reported, with these routes
 abbrev pub run_of : Option (List Route) → Report → Option Contents → Choices → Run
 run_of routes report contents choices = record {
   choices = choices;
-  environment = environment routes report contents (folder_of choices) (max_terms_of choices);
+  environment = environment routes report contents (folder_of choices) (limit_of choices);
   numbered = no_numbers;
 }
 

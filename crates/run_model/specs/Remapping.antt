@@ -1,16 +1,15 @@
 -- By which versions of the mapping the pages that a world holds are mapped, how they are remapped, and for how many terms there must be room.
-use Rattle.std.specs.Prelude.{◌≡◌, ⊤, ℕ, zero, suc, ◌<◌, List, Option, Some, ◌≤◌, cond, [], ◌∷◌, ◌++◌, Result, Ok, Err}
+use Rattle.std.specs.Prelude.{◌≡◌, ⊤, ℕ, zero, suc, ◌<◌, Bool, List, Option, Some, ◌≤◌, cond, [], ◌∷◌, ◌++◌, Result, Ok, Err}
 use Rattle.rdf_term.specs.{declared.triple.Triple.Triple, Order.triple_cmp}
 use Rattle.entity_model.specs.{declared.id.EntityId.EntityId, declared.mapping.MappingVersion.MappingVersion, declared.event.Event.Event}
 use Rattle.entity_state.specs.{declared.record.Held.Held, declared.record.Record.Record, Record.held_revision, Record.wants}
 use Rattle.entity_state.specs.State.{state_after}
-use Rattle.replay_model.specs.{Records.Bytes, Records.Records, Records.record_of, Union.union, Union.triples_held}
+use Rattle.replay_model.specs.{Records.Bytes, Records.Records, Records.record_of, Union.Meaning, Union.union}
 use Rattle.replay_model.specs.{Versions.all_by, Versions.meaning_by, Versions.with_version, Play.Played, Play.Replies, Play.apply}
 use Rattle.replay_model.specs.ReplayState.{ReplayState, after_mark, due_now}
 use Rattle.fetched_pages.specs.Meaning.{meaning}
-use Rattle.holders.specs.Roomed.{HasRoom, room_with}
 use Rattle.holders.specs.Holding.{first_of, stale_by, with_version_of}
-use Rattle.world.specs.WorldState.{WorldState}
+use Rattle.world.specs.{Limit.Limit, Limit.HasRoomBy, Limit.needs, WorldState.WorldState}
 use Rattle.term_pool.specs.declared.fault.PoolFault.{PoolFault as StoreFault}
 use Rattle.term_pool.specs.declared.fault.PoolFault.TheVariants.{Full, OutOfMemory}
 use Rattle.sorted_sets.specs.Rising.{Each}
@@ -41,13 +40,14 @@ KeepsVersion old new before now = (version : MappingVersion) → old ≡ mapped_
 abbrev pub held_triples : Mapped → Records → List Triple
 held_triples mapped records = union triple_cmp (meaning_by meaning mapped.by_two) records
 
--- what a world holds has no more distinct terms than this limit
-abbrev pub HoldsWithin : ℕ → WorldState → Type 0
-HoldsWithin limit world = HasRoom (meaning_by meaning world.by_two) limit world.replay.played.records
+-- what is stored of what a world holds has no more distinct terms than there may be
+abbrev pub HoldsWithin : Limit → WorldState → Type 0
+HoldsWithin limit world = HasRoomBy limit (meaning_by meaning world.by_two) world.replay.played.records
 
--- the triples of all that is held have, together with those of a page by the version in force, more distinct terms than this limit
-abbrev pub HasNoRoom : ℕ → Records → Mapped → EntityId → ℕ → Bytes → Type 0
-HasNoRoom limit records mapped x rev bytes = limit < room_with (meaning_by meaning mapped.by_two) records (meaning mapped.version x rev bytes)
+-- the stored triples have, together with those that are stored of a page by the version in force, more distinct terms than there may be
+abbrev pub HasNoRoom : Limit → Records → Mapped → EntityId → ℕ → Bytes → Type 0
+HasNoRoom limit records mapped x rev bytes =
+    limit.terms < needs limit.lean (meaning_by meaning mapped.by_two) (meaning mapped.version) records x (Some (record { revision = rev; content = bytes }))
 
 -- the least entity whose page isn't mapped by the version in force, if there is one
 abbrev pub next_stale_in : Records → Mapped → Option EntityId
@@ -63,7 +63,7 @@ remapped_some zero records mapped = mapped
 remapped_some (suc n) records mapped = remapped_in records (remapped_some n records mapped)
 
 -- the page of the least entity whose page isn't mapped by the version in force has no room by this version
-pub record IsFullOfStale (limit : ℕ) (records : Records) (mapped : Mapped) : Type 0 where
+pub record IsFullOfStale (limit : Limit) (records : Records) (mapped : Mapped) : Type 0 where
   pub entity : EntityId
   pub next : next_stale_in records mapped ≡ Some entity
   pub page : Held Bytes
@@ -71,7 +71,7 @@ pub record IsFullOfStale (limit : ℕ) (records : Records) (mapped : Mapped) : T
   pub over : HasNoRoom limit records mapped entity page.revision page.content
 
 -- why this page isn't remapped
-abbrev pub IsLeftStale : StoreFault → ℕ → Records → Mapped → Type 0
+abbrev pub IsLeftStale : StoreFault → Limit → Records → Mapped → Type 0
 IsLeftStale Full limit records mapped = IsFullOfStale limit records mapped
 IsLeftStale OutOfMemory limit records mapped = ⊤
 
@@ -79,57 +79,66 @@ IsLeftStale OutOfMemory limit records mapped = ⊤
 
 -- ---- room for what is needed
 
+-- how many terms are needed: those of all triples, or, where this says so, of those that two pages may share
+abbrev pub Need : Type 0
+Need = Bool → ℕ
+
+-- the terms of the stored triples, together with those that are stored of what x is to hold; pages that are held mean the first, and what x is
+-- to hold means the second
+abbrev pub need_of : Meaning Triple → Meaning Triple → Records → EntityId → Option (Held Bytes) → Need
+need_of m n records x held = λ lean. needs lean m n records x held
+
 -- there is room for each of these
-abbrev pub HaveRoom : ℕ → List ℕ → Type 0
-HaveRoom limit needs = Each (λ n. n ≤ limit) needs
+abbrev pub HaveRoom : Limit → List Need → Type 0
+HaveRoom limit needs = Each (λ (need : Need). need limit.lean ≤ limit.terms) needs
 
 -- there is room for each of these but for those that are left, which are the last
-pub record HaveRoomBefore (limit : ℕ) (left needs : List ℕ) : Type 0 where
-  pub met : List ℕ
+pub record HaveRoomBefore (limit : Limit) (left needs : List Need) : Type 0 where
+  pub met : List Need
   pub are : met ++ left ≡ needs
   pub have_room : HaveRoom limit met
 
 -- ---- applications
 
--- for how many terms there must be room at the reply to the fetch of a revision of x: if it is a document, for the distinct terms of all
--- that is held and of this document together, every page by this version; otherwise there is no need
-abbrev pub needed_for : MappingVersion → Records → EntityId → ℕ → Result Bytes Cause → List ℕ
-needed_for version records x r (Ok bytes) = room_with (meaning version) records (meaning version x r bytes) ∷ []
+-- for how many terms there must be room at the reply to the fetch of a revision of x: if it is a document, for the distinct terms of what
+-- is stored of all that is held and of this document together, every page by this version; otherwise there is no need
+abbrev pub needed_for : MappingVersion → Records → EntityId → ℕ → Result Bytes Cause → List Need
+needed_for version records x r (Ok bytes) = need_of (meaning version) (meaning version) records x (Some (record { revision = r; content = bytes })) ∷ []
 needed_for version records x r (Err cause) = []
 
 -- at the application of an event to the record of its entity, which fetches at most once
-abbrev pub needed_by : MappingVersion → Replies → Records → Event → Record Bytes → List ℕ
+abbrev pub needed_by : MappingVersion → Replies → Records → Event → Record Bytes → List Need
 needed_by version replies records e r =
     cond (wants (state_after r.state e) (held_revision r.held)) (needed_for version records e.entity (state_after r.state e).rev (replies e (state_after r.state e).rev)) []
 
 -- at events that are applied one after the other
-abbrev pub needed_by_all : MappingVersion → Replies → Played → List Event → List ℕ
+abbrev pub needed_by_all : MappingVersion → Replies → Played → List Event → List Need
 needed_by_all version replies p [] = []
 needed_by_all version replies p (e ∷ es) = needed_by version replies p.records e (record_of p.records e.entity) ++ needed_by_all version replies (apply replies p e) es
 
 -- at all due events
-abbrev pub needed_by_due : MappingVersion → Replies → ReplayState → List ℕ
+abbrev pub needed_by_due : MappingVersion → Replies → ReplayState → List Need
 needed_by_due version replies w = needed_by_all version replies w.played (due_now w.buffer)
 
 -- ---- remappings
 
 -- for how many terms there must be room as the pages of these entities are remapped by this version, one after the other; the other list
--- names those that are by version Two: at each for the distinct terms of all that is held, as it is mapped until then, and of the page by
--- this version
-abbrev pub needed_by_pages : MappingVersion → Records → List EntityId → List EntityId → List ℕ
+-- names those that are by version Two: at each for the distinct terms of what is stored of all that is held, as it is mapped until then, and of
+-- the page by this version
+abbrev pub needed_by_pages : MappingVersion → Records → List EntityId → List EntityId → List Need
 needed_by_pages version records by_two [] = []
 needed_by_pages version records by_two (x ∷ xs) =
-    room_with (meaning_by meaning by_two) records (triples_held (meaning version) x (record_of records x).held) ∷ needed_by_pages version records (with_version version x by_two) xs
+    need_of (meaning_by meaning by_two) (meaning version) records x (record_of records x).held ∷ needed_by_pages version records (with_version version x by_two) xs
 
 -- at all pages that aren't mapped by the version in force, the least entity first
-abbrev pub needed_anew : Records → Mapped → List ℕ
+abbrev pub needed_anew : Records → Mapped → List Need
 needed_anew records mapped = needed_by_pages mapped.version records mapped.by_two (stale_by mapped.version mapped.by_two records)
 
 -- ---- a play
 
 -- at a delivery: a watermark applies what it makes due, by the version in force, and a line that brings a version maps by it all that is
 -- held, which is mapped by the version in force before
-abbrev pub needed_of_delivery : Replies → Checkpoint → Delivery → List ℕ
+abbrev pub needed_of_delivery : Replies → Checkpoint → Delivery → List Need
 needed_of_delivery replies c (Told e) = []
 needed_of_delivery replies c (Watermark m) = needed_by_due c.version replies (after_mark c.state m)
 needed_of_delivery replies c (Ask q) = []

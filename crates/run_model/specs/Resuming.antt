@@ -1,19 +1,19 @@
 -- What a run leaves that goes on from a snapshot.
 use Rattle.std.specs.Prelude.{◌≡◌, ◌⊎◌, ℕ, List, Option, None, Some, IfSome, IsSome}
 use Rattle.wq_io.specs.Streams.{IsAtEnd}
-use Rattle.world.specs.WorldState.{WorldState}
+use Rattle.world.specs.{Limit.Limit, WorldState.WorldState}
 use Rattle.snapshot.specs.{File.saved_in_bytes, declared.counts.Counts.Counts}
 use Rattle.checkpoint.specs.{declared.fault.LoadFault.LoadFault, declared.fault.LoadFault.TheVariants.BadLine, Causes.HasCause}
 use Rattle.checkpoint.specs.Saved.{AreWithin, saved_of, world_of}
 use Rattle.following.specs.Input.{Input}
-use Rattle.arguments.specs.Options.{Choices, max_terms_of}
+use Rattle.arguments.specs.Options.{Choices}
 use Rattle.run_model.specs.{declared.stop.Stop.Stop, Headline.ReplayEnding}
-use Rattle.run_model.specs.Moment.{Moment, Run, behind, stage_in, world_at_start}
+use Rattle.run_model.specs.Moment.{Moment, Run, behind, limit_of, stage_in, world_at_start}
 use Rattle.run_model.specs.{Remapping.HoldsWithin, Remapping.mapped_in, Stop.stop_of_load, Taking.IsStanding}
 
--- these bytes are the snapshot of this world with these counts, where there is room for so many terms. Whoever made them, the world is one
+-- these bytes are the snapshot of this world with these counts, where there is room for so many terms of these triples. Whoever made them, the world is one
 -- that stands between two deliveries, what it holds has room, and there is a number for each question and each record to come
-pub record IsSnapshotOf (left : Option (List ℕ)) (limit : ℕ) (world : WorldState) (numbers : Counts) : Type 0 where
+pub record IsSnapshotOf (left : Option (List ℕ)) (limit : Limit) (world : WorldState) (numbers : Counts) : Type 0 where
   pub saved : IfSome left (λ bytes. saved_in_bytes bytes ≡ Some (saved_of world numbers))
   pub is : world ≡ world_of limit (saved_of world numbers)
   pub stands : IsStanding world.replay (mapped_in world)
@@ -28,12 +28,12 @@ AllowsHorizon choices horizon = IfSome choices.horizon (λ micros. horizon ≡ S
 pub record HasOtherHorizon (choices : Choices) (left : Option (List ℕ)) : Type 0 where
   pub world : WorldState
   pub numbers : Counts
-  pub loaded : IsSnapshotOf left (max_terms_of choices) world numbers
+  pub loaded : IsSnapshotOf left (limit_of choices) world numbers
   pub differs : AllowsHorizon choices world.replay.buffer.horizon → ⊥
 
 -- why a run doesn't go on from a snapshot: it isn't loaded, or its head is refused for its horizon
 abbrev pub IsRefusedFor : LoadFault → Choices → Option (List ℕ) → ℕ → ℕ → Type 0
-IsRefusedFor fault choices left before now = HasCause fault (max_terms_of choices) left before now ⊎ ((fault ≡ BadLine 1) × HasOtherHorizon choices left)
+IsRefusedFor fault choices left before now = HasCause fault (limit_of choices) left before now ⊎ ((fault ≡ BadLine 1) × HasOtherHorizon choices left)
 
 -- the run didn't go on from the snapshot, for a cause: the input is unread, nothing was written, and the world is as it was
 pub record IsNotResumed (stopped : Option Stop) (run : Run) (before now : Moment) : Type 0 where
@@ -50,7 +50,7 @@ with_loaded before rest world = record before { stage = stage_in before.stage.ou
 pub record IsResumed (stopped : Option Stop) (run : Run) (before now : Moment) : Type 0 where
   pub world : WorldState
   pub numbers : Counts
-  pub loaded : IsSnapshotOf before.resumed.left (max_terms_of run.choices) world numbers
+  pub loaded : IsSnapshotOf before.resumed.left (limit_of run.choices) world numbers
   pub allowed : AllowsHorizon run.choices world.replay.buffer.horizon
   pub rest : Input
   pub read : IsAtEnd rest.left

@@ -35,6 +35,7 @@ use Rattle.run_model.proofs.{Along.asks-push, Along.matches-push, Deliveries.end
 use Rattle.run_model.proofs.Ends.{is_played, none_named_first}
 use Rattle.run_model.proofs.{FromNothing.ended_first, FromNothing.led_first, FromNothing.version_first, Progress.nothing_taken}
 use Rattle.rdf_term.specs.Limits.{default_max_terms}
+use Rattle.world.specs.Limit.{whole}
 
 -- ---- where the world is
 
@@ -84,7 +85,7 @@ led_nothing size ds start first nothing = led_first start first (replies_of size
 full_never : (size : ℕ) (world : ReplayState) (mapped : Mapped) → IsSize size → HasBegun size world → mapped ≡ mapped_by One world.played.records → IsFull (drill_environment size) world mapped → ⊥
 full_never size world mapped is_size begun is full =
     never_over size default_max_terms world full.event full.bytes is_size begun (omega arith) full.due full.fetches (full.there (contents_of size) refl)
-    (subst (λ m. HasNoRoom default_max_terms world.played.records m full.event.entity (revision_wanted world full.event) full.bytes) is full.over)
+    (subst (λ m. HasNoRoom (whole default_max_terms) world.played.records m full.event.entity (revision_wanted world full.event) full.bytes) is full.over)
 
 -- ---- one delivery of a drill
 
@@ -238,7 +239,7 @@ part_at_rest run ds out world taken = inl (record {
 })
 
 -- what it leaves
-pub leaves_halted : (size : ℕ) (ds : List Delivery) (d : Delivery) (stop : Stop) (world world_now : WorldState) → IsDrillHalted size ds d stop world_now → world.limit ≡ default_max_terms → world_now.limit ≡ world.limit → LeavesDrill world_now
+pub leaves_halted : (size : ℕ) (ds : List Delivery) (d : Delivery) (stop : Stop) (world world_now : WorldState) → IsDrillHalted size ds d stop world_now → world.limit ≡ whole default_max_terms → world_now.limit ≡ world.limit → LeavesDrill world_now
 leaves_halted size ds d stop world world_now halted limit same = record {
   first = halted.first;
   limit = same ∙ limit;
@@ -253,7 +254,7 @@ leaves_at_rest run ds after out world all taken = record {
 
 -- before the first delivery
 pub starts : (run : DrillRun) (out : Output) (world : WorldState) → told_of run.pages.size ≡ told_of run.size → run.counts ≡ record { deliveries = 0; accepted = 0; late = 0 } → run.changed ≡ false → world.replay ≡ nothing_delivered → IsByFirst world →
-    world.limit ≡ default_max_terms → HasTakenFirst run (drill 0) out world
+    world.limit ≡ whole default_max_terms → HasTakenFirst run (drill 0) out world
 starts run out world told zero unchanged is first limit = record {
   start = start_in no_numbers (drill_stage run.pages out world);
   first = record { world = is ∙ ap (λ (w : ReplayState). nothing_delivered_within w.buffer.horizon) (sym is); mapping = first.0; numbered = refl };

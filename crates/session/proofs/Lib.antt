@@ -1,4 +1,5 @@
 mod DrillPlaying
 mod Drills
+mod Limited
 mod Plans
 mod Starved

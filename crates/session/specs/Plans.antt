@@ -3,14 +3,14 @@
 use Rattle.std.specs.Prelude.{◌≡◌, ◌⊎◌, ℕ, false, List, None, Some, Option, IfSome, IsSome, MatchOption}
 use Rattle.revisions.specs.{declared.revisions.Revisions.Ghosts as RevisionsOf, Revisions.Contents}
 use Rattle.graph_routes.specs.{declared.routes.Route.Route, Routes.AreRoutesIn}
-use Rattle.arguments.specs.Options.{SplitChoices, max_terms_of, FollowChoices, follow_max_bytes_of}
+use Rattle.arguments.specs.Options.{SplitChoices, FollowChoices, follow_max_bytes_of}
 use Rattle.arguments.specs.{Plan.plan_of, declared.plan.Plan.Plan}
 use Rattle.arguments.specs.declared.plan.Plan.TheVariants.{Replay, Drill, Patches, Follow, Split}
 use Rattle.run_model.specs.declared.report.Report.TheVariants.{Answers, Changes}
 use Rattle.run_model.specs.{declared.ports.Ports.Ports, declared.status.Status.Status, Remapping.HoldsWithin, Resuming.RunEnding}
-use Rattle.run_model.specs.Moment.{HaveGoneOn, Run, Stage, moment, run_of, stage, world_at_start}
+use Rattle.run_model.specs.Moment.{HaveGoneOn, Run, Stage, limit_of, moment, run_of, stage, world_at_start}
 use Rattle.checkpoint.specs.declared.snapshots.Snapshots.{Ghosts as SnapshotsOf}
-use Rattle.world.specs.WorldState.{WorldState}
+use Rattle.world.specs.{Limit.Limit, Limit.whole, WorldState.WorldState}
 use Rattle.run_model.specs.Stop.{MayKeep, stop_of, stop_of_follow}
 use Rattle.run_model.specs.declared.status.Status.TheVariants.{Ok as Ended, BadWords, BadLine, ReadFault, WriteFault, TooLong, StoreFull, OutOfMemory, BadSnapshot}
 use Rattle.run_model.specs.declared.stop.Stop.{Stop}
@@ -56,13 +56,20 @@ IsRunOf (Split choices) contents run = IsSplitRun choices contents run
 IsRunOf (Drill size) contents run = ⊥
 IsRunOf (Follow choices) contents run = ⊥
 
--- the most terms that a plan leaves room for: as many as its options say, and for a drill and a follower always the same
-abbrev pub limit_of_plan : Plan → ℕ
-limit_of_plan (Replay choices) = max_terms_of choices
-limit_of_plan (Patches choices) = max_terms_of choices
-limit_of_plan (Drill size) = default_max_terms
-limit_of_plan (Follow choices) = default_max_terms
-limit_of_plan (Split choices) = max_terms_of choices.replay
+-- the most terms that a plan leaves room for, and of which triples: as its options say, and for a drill and a follower always the same
+abbrev pub limit_of_plan : Plan → Limit
+limit_of_plan (Replay choices) = limit_of choices
+limit_of_plan (Patches choices) = limit_of choices
+limit_of_plan (Drill size) = whole default_max_terms
+limit_of_plan (Follow choices) = whole default_max_terms
+limit_of_plan (Split choices) = limit_of choices.replay
+
+-- a world that a run with this status left has as many terms as this limit says, and what it holds stays within them; and it is lean as the
+-- limit says, unless memory was refused
+pub record KeepsLimit (status : Status) (limit : Limit) (world : WorldState) : Type 0 where
+  pub terms : world.limit.terms ≡ limit.terms
+  pub held : HoldsWithin world.limit world
+  pub is : (world.limit ≡ limit) ⊎ (status ≡ OutOfMemory)
 
 -- a run with this plan and status may have kept or begun a snapshot
 abbrev pub MaySave : Plan → Status → Type 0
@@ -135,17 +142,18 @@ pub record PlanEnding {S R K F : Type 0} (events : SourceOf S) (source : Revisio
   pub drill : (size : ℕ) → plan ≡ Drill size → DrillEnding status size (stage source sink old.revisions old.out world) (stage source sink new.revisions new.out now) × IsByFirst now × (new ≡ record old { out = new.out })
   pub follow : (choices : FollowChoices) → plan ≡ Follow choices →
       FollowEnding status choices (follow_moment events sink old.events old.out) (follow_moment events sink new.events new.out)
-      × (new ≡ record old { events = new.events; out = new.out }) × (now ≡ record world { limit = default_max_terms })
-  pub limit : (status ≡ BadWords) ⊎ ((now.limit ≡ limit_of_plan plan) × HoldsWithin (limit_of_plan plan) now)
+      × (new ≡ record old { events = new.events; out = new.out }) × (now ≡ record world { limit = whole default_max_terms })
+  pub limit : (status ≡ BadWords) ⊎ KeepsLimit status (limit_of_plan plan) now
   pub unsaved : MaySave plan status ⊎ (new.snapshot ≡ old.snapshot)
   pub further : HaveGoneOn events source sink file old new
 
--- the world of a plan that doesn't begin: that at the start of a first run, or as it was, with the limit of the plan
+-- the world of a plan that doesn't begin: that at the start of a first run, or as it was, with as many terms as the plan says; it may not be
+-- lean yet
 pub record IsUnbegun (plan : Plan) (world now : WorldState) : Type 0 where
-  pub begun : (contents : Option Contents) (run : Run) → IsRunOf plan contents run → run.choices.resume ≡ None → now ≡ world_at_start run.choices
-  pub resumed : (contents : Option Contents) (run : Run) → IsRunOf plan contents run → IsSome run.choices.resume → now ≡ record world { limit = max_terms_of run.choices }
+  pub begun : (contents : Option Contents) (run : Run) → IsRunOf plan contents run → run.choices.resume ≡ None → now ≡ record (world_at_start run.choices) { limit = now.limit }
+  pub resumed : (contents : Option Contents) (run : Run) → IsRunOf plan contents run → IsSome run.choices.resume → now ≡ record world { limit = now.limit }
   pub nothing : now.replay ≡ nothing_delivered_within now.replay.buffer.horizon
   pub drill : (size : ℕ) → plan ≡ Drill size → IsByFirst now × (now.replay ≡ nothing_delivered)
-  pub follow : (choices : FollowChoices) → plan ≡ Follow choices → now ≡ record world { limit = default_max_terms }
-  pub limit : now.limit ≡ limit_of_plan plan
-  pub held : HoldsWithin (limit_of_plan plan) now
+  pub follow : (choices : FollowChoices) → plan ≡ Follow choices → now ≡ record world { limit = whole default_max_terms }
+  pub terms : now.limit.terms ≡ (limit_of_plan plan).terms
+  pub held : HoldsWithin now.limit now

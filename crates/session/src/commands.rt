@@ -1,6 +1,6 @@
 // What a plan does, and what is left of it where it isn't read for want of memory.
 
-ghost use Rattle.std.specs.Prelude.{◌≡◌, Some, IsSome, map, string_bytes};
+ghost use Rattle.std.specs.Prelude.{◌≡◌, false, Some, IsSome, map, string_bytes};
 ghost use Rattle.replay_model.specs.ReplayState.{nothing_delivered};
 ghost use Rattle.arguments.specs.{Plan.IsSized, Plan.plan_of, declared.plan.Plan.Plan as ThePlan};
 ghost use Rattle.session.specs.Plans.{IsUnbegun, PlanEnding};
@@ -9,7 +9,7 @@ use crate::drilling::drill;
 use crate::records::follow_records;
 use crate::remapping::begin_by_first;
 use crate::replaying::run_replay;
-use crate::resuming::prepare;
+use crate::resuming::prepared;
 use crate::split::split;
 use crate::task::Task;
 use arguments::{Plan, read_plan};
@@ -31,6 +31,7 @@ pub fn run_plan<S: Source, R: Revisions, K: Sink, F: Snapshots>(
     world: World,
 ) -> (Status, World)
     requires world { world.replay ≡ nothing_delivered }
+    requires lean { world.limit.lean ≡ false }
     requires sized { IsSized plan.now }
     ensures { PlanEnding S.Source R.Revisions K.Sink F.Snapshots plan.now result.0 ports.old ports.new world result.1 }
 {
@@ -60,13 +61,14 @@ pub fn run_plan<S: Source, R: Revisions, K: Sink, F: Snapshots>(
 // The world of a plan that doesn't begin.
 pub fn unbegun(words: &[String], world: World) -> World
     requires world { world.replay ≡ nothing_delivered }
+    requires lean { world.limit.lean ≡ false }
     requires plan { IsSome (plan_of (map (λ w. string_bytes w) words.now)) }
     ensures { (plan : ThePlan) → plan_of (map (λ w. string_bytes w) words.now) ≡ Some plan → IsUnbegun plan world result }
 {
     match read_plan(words) {
-        Some(Plan::Replay(options)) => prepare(&options, world),
-        Some(Plan::Patches(options)) => prepare(&options, world),
-        Some(Plan::Split(options)) => prepare(options.replay(), world),
+        Some(Plan::Replay(options)) => prepared(&options, world),
+        Some(Plan::Patches(options)) => prepared(&options, world),
+        Some(Plan::Split(options)) => prepared(options.replay(), world),
         Some(Plan::Drill(_)) => {
             let mut world = world;
             begin_by_first(&mut world);

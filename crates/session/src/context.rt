@@ -1,24 +1,24 @@
 // The context in which a delivery is taken, and the report on it.
 
-ghost use Rattle.std.specs.Prelude.{◌≡◌, ◌+◌, ◌-◌, ◌^◌, ◌<◌, List};
+ghost use Rattle.std.specs.Prelude.{◌≡◌, ◌+◌, ◌-◌, ◌^◌, ◌<◌, List, false};
 ghost use Rattle.rdf_term.specs.declared.triple.Triple.{Triple as TheTriple};
 ghost use Rattle.replay_model.specs.{Transcript.for_bindings, Transcript.for_triples, Versions.meaning_by};
 ghost use Rattle.fetched_pages.specs.Meaning.{meaning};
-ghost use Rattle.holders.specs.Changing.{Tells};
+ghost use Rattle.world.specs.Held.{TellsChange};
 ghost use Rattle.text_output.specs.Printing.{Prints, output};
 ghost use Rattle.patch_stream.specs.Stream.{step};
-ghost use Rattle.run_model.specs.{Course.answer_text, Moment.HasWrittenOn};
+ghost use Rattle.run_model.specs.{declared.report.Report.TheVariants.Answers, Course.answer_text, Moment.HasWrittenOn};
 ghost use Rattle.run_model.specs.Delivering.{AnswersQuestion, HasNumberLeft, TellsStepBy, telling_of};
 
 use crate::replay::Replay;
 use delivery::{Delivery, Query};
-use patch_stream::print_step;
+use patch_stream::{changes_something, print_step};
 use rdf_term::Pattern;
 use run_model::{Report, Reported};
 use std::alloc::Global;
 use text_output::Unwritten;
 use transcript::{print_answer, print_match};
-use triple_store::Told;
+use world::StepChange;
 use wq_io::Sink;
 
 // The context in which a delivery is taken: memory, the folder of the revisions, what is reported, what was reported before, and how many
@@ -48,6 +48,7 @@ impl Context<'_> {
         out: &mut K,
     ) -> Result<Reported, Unwritten>
         requires number { HasNumberLeft self.now.report self.now.reported self.now.matched }
+        requires lean { self.now.report ≡ Answers → replay.now.world.limit.lean ≡ false }
         ensures answers { AnswersQuestion self.now.report self.now.reported (for_triples pattern.now)
             (answer_text replay.now.routes self.now.reported.number self.now.matched (meaning_by meaning replay.now.world.by_two) replay.now.world.replay.played.records (for_triples pattern.now))
             (output K.Sink out.old) (output K.Sink out.new) result }
@@ -73,6 +74,7 @@ impl Context<'_> {
         out: &mut K,
     ) -> Result<Reported, Unwritten>
         requires number { HasNumberLeft self.now.report self.now.reported self.now.matched }
+        requires lean { self.now.report ≡ Answers → replay.now.world.limit.lean ≡ false }
         ensures answers { AnswersQuestion self.now.report self.now.reported (for_bindings query.now)
             (answer_text replay.now.routes self.now.reported.number self.now.matched (meaning_by meaning replay.now.world.by_two) replay.now.world.replay.played.records (for_bindings query.now))
             (output K.Sink out.old) (output K.Sink out.new) result }
@@ -95,6 +97,7 @@ impl Context<'_> {
         out: &mut K,
     ) -> Result<(), Unwritten>
         requires number { self.now.matched < 2 ^ 64 - 1 }
+        requires lean { replay.now.world.limit.lean ≡ false }
         ensures { Prints (answer_text replay.now.routes self.now.reported.number self.now.matched (meaning_by meaning replay.now.world.by_two) replay.now.world.replay.played.records (for_bindings query.now))
             (output K.Sink out.old) (output K.Sink out.new) result }
     {
@@ -112,6 +115,7 @@ impl Context<'_> {
         out: &mut K,
     ) -> Result<(), Unwritten>
         requires number { self.now.reported.number < 2 ^ 64 - 1 }
+        requires lean { replay.now.world.limit.lean ≡ false }
         ensures { Prints (answer_text replay.now.routes self.now.reported.number self.now.matched (meaning_by meaning replay.now.world.by_two) replay.now.world.replay.played.records (for_triples pattern.now))
             (output K.Sink out.old) (output K.Sink out.new) result }
     {
@@ -127,23 +131,23 @@ impl Context<'_> {
     pub fn tell<K: Sink>(
         &self,
         reported: Reported,
-        told: Told,
+        change: StepChange,
         out: &mut K,
     ) -> Result<Reported, Unwritten>
-        ensures tells { (before after : List TheTriple) → Tells (telling_of self.now.report reported) before after told →
+        ensures tells { (before after : List TheTriple) → TellsChange (telling_of self.now.report reported) before after change →
             TellsStepBy self.now.report reported (step before after) (output K.Sink out.old) (output K.Sink out.new) result }
         ensures written { HasWrittenOn K.Sink out.old out.new }
     {
         match self.report {
             Report::Answers => {
-                let differs = told.is_change();
-                drop(told);
+                let differs = changes_something(&change);
+                drop(change);
                 Ok(Reported {
                     number: reported.number,
                     changed: reported.changed || differs,
                 })
             }
-            Report::Changes => match print_step(self.alloc, reported.number, told, out) {
+            Report::Changes => match print_step(self.alloc, reported.number, change, out) {
                 Ok(number) => Ok(Reported {
                     number,
                     changed: reported.changed,

@@ -29,7 +29,7 @@ pub struct Delivered {
 }
 
 // Takes one delivery: all that it makes due is applied, it is answered if it is a question, and what is held is remapped if it changes the
-// mapping; what is to be reported of that is written. Says what its event was, if it is one.
+// mapping; what is to be reported of that is written. Says what its event was, if it is one. Of a lean world only changes are reported.
 pub fn deliver<R: Revisions, K: Sink>(
     incoming: &Incoming<'_>,
     revisions: &mut R,
@@ -38,6 +38,7 @@ pub fn deliver<R: Revisions, K: Sink>(
 ) -> Result<Delivered, Stop>
     requires open { replay.old.world.replay.buffer.closed ≡ false }
     requires number { HasNumberLeft incoming.now.context.report incoming.now.context.reported incoming.now.context.matched }
+    requires lean { incoming.now.context.report ≡ Answers → replay.old.world.limit.lean ≡ false }
     ensures ok { IfOk result (λ done. TakesDelivery (environment_in replay.old incoming.now.context.report (R.contents revisions.old) incoming.now.context.folder.now) (turn incoming.now.context.reported incoming.now.context.matched incoming.now.delivery.now) done.reported
         (stage R.Revisions K.Sink revisions.old out.old replay.old.world) (stage R.Revisions K.Sink revisions.new out.new replay.new.world)) }
     ensures answer { IfOk result (λ done. done.answer ≡ answer_of replay.old.world.replay.buffer incoming.now.delivery.now) }

@@ -9,6 +9,7 @@ ghost use Rattle.drill_replay.specs.Summary.{drilled};
 ghost use Rattle.session.specs.DrillPlaying.{HasTakenFirst, LeavesDrill};
 ghost use Rattle.term_pool.specs.declared.fault.PoolFault.TheVariants.{OutOfMemory as PoolOutOfMemory};
 ghost use Rattle.rdf_term.specs.Limits.{default_max_terms};
+ghost use Rattle.world.specs.Limit.{whole};
 
 use crate::context::{Context, Incoming};
 use crate::delivering::{deliver, take_end};
@@ -42,7 +43,7 @@ pub fn play<K: Sink>(
     requires size { IsSize size }
     requires world { replay.old.world.replay ≡ nothing_delivered }
     requires first { IsByFirst replay.old.world }
-    requires limit { replay.old.world.limit ≡ default_max_terms }
+    requires limit { replay.old.world.limit ≡ whole default_max_terms }
     requires routes { replay.old.routes ≡ None }
     ensures counts { IfOk result (λ counts. Counted (drill size) counts) }
     ensures ok { OnOk result (replay.new.world.replay ≡ drilled size) }

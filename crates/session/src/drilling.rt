@@ -1,6 +1,6 @@
 // A drill: its deliveries, and its summary.
 
-ghost use Rattle.std.specs.Prelude.{◌≡◌, ◌≤◌, None, IfErr, OnOk};
+ghost use Rattle.std.specs.Prelude.{◌≡◌, ◌≤◌, false, None, IfErr, OnOk};
 ghost use Rattle.replay_model.specs.ReplayState.{nothing_delivered};
 ghost use Rattle.text_output.specs.Printing.{output};
 ghost use Rattle.drill_replay.specs.Playing.{IsByFirst};
@@ -8,6 +8,7 @@ ghost use Rattle.run_model.specs.{Moment.HasWrittenOn, Remapping.HoldsWithin};
 ghost use Rattle.session.specs.Plans.{DrillStopped, HasDrilled, IsDrillEnd};
 ghost use Rattle.arguments.specs.Plan.{greatest_size};
 ghost use Rattle.rdf_term.specs.Limits.{default_max_terms};
+ghost use Rattle.world.specs.Limit.{whole};
 
 use crate::drill_playing::play;
 use crate::remapping::begin_by_first;
@@ -24,9 +25,10 @@ use wq_io::Sink;
 pub fn drill<K: Sink>(alloc: Global, size: u32, out: &mut K, world: World) -> (Status, World)
     requires size { (1 ≤ size) × (size ≤ greatest_size) }
     requires world { world.replay ≡ nothing_delivered }
+    requires lean { world.limit.lean ≡ false }
     ensures ending { IsDrillEnd result.0 size (output K.Sink out.old) (output K.Sink out.new) result.1.replay }
     ensures first { IsByFirst result.1 }
-    ensures limit { (result.1.limit ≡ default_max_terms) × HoldsWithin default_max_terms result.1 }
+    ensures limit { (result.1.limit ≡ whole default_max_terms) × HoldsWithin result.1.limit result.1 }
     ensures written { HasWrittenOn K.Sink out.old out.new }
 {
     let mut world = world;
@@ -51,12 +53,12 @@ fn drill_and_print<K: Sink>(
     requires size { (1 ≤ size) × (size ≤ greatest_size) }
     requires world { replay.old.world.replay ≡ nothing_delivered }
     requires first { IsByFirst replay.old.world }
-    requires limit { replay.old.world.limit ≡ default_max_terms }
+    requires limit { replay.old.world.limit ≡ whole default_max_terms }
     requires routes { replay.old.routes ≡ None }
     ensures ok { OnOk result (HasDrilled size (output K.Sink out.old) (output K.Sink out.new) replay.new.world.replay) }
     ensures err { IfErr result (λ why. DrillStopped why size (output K.Sink out.old) (output K.Sink out.new) replay.new.world.replay) }
     ensures first { IsByFirst replay.new.world }
-    ensures limit { replay.new.world.limit ≡ default_max_terms }
+    ensures limit { replay.new.world.limit ≡ whole default_max_terms }
     ensures written { HasWrittenOn K.Sink out.old out.new }
 {
     let counts = play(alloc, size, out, replay)?;

@@ -1,15 +1,16 @@
 // The top call.
 
-ghost use Rattle.std.specs.Prelude.{◌≡◌, ◌⊎◌, ℕ, None, Some, IsSome, map, string_bytes};
+ghost use Rattle.std.specs.Prelude.{◌≡◌, ◌⊎◌, ℕ, false, None, Some, IsSome, map, string_bytes};
 ghost use Rattle.replay_model.specs.ReplayState.{nothing_delivered, nothing_delivered_within};
 ghost use Rattle.drill_replay.specs.Playing.{IsByFirst};
-ghost use Rattle.run_model.specs.{Moment.HaveGoneOn, Resuming.RunEnding, Moment.Run, Moment.moment, Moment.stage, Remapping.HoldsWithin};
+ghost use Rattle.run_model.specs.{Moment.HaveGoneOn, Resuming.RunEnding, Moment.Run, Moment.moment, Moment.stage};
 ghost use Rattle.run_model.specs.Stop.{stop_of};
-ghost use Rattle.session.specs.Plans.{DrillEnding, FollowEnding, IsNotUnderstood, IsRunOf, MaySave, PlanEnding, limit_of_plan};
+ghost use Rattle.session.specs.Plans.{DrillEnding, FollowEnding, IsNotUnderstood, IsRunOf, KeepsLimit, MaySave, PlanEnding, limit_of_plan};
 ghost use Rattle.following.specs.Following.{follow_moment};
 ghost use Rattle.arguments.specs.{Options.FollowChoices, Plan.plan_of, declared.plan.Plan.Plan as ThePlan};
 ghost use Rattle.arguments.specs.declared.plan.Plan.TheVariants.{Drill, Follow};
 ghost use Rattle.rdf_term.specs.Limits.{default_max_terms};
+ghost use Rattle.world.specs.Limit.{whole};
 
 use crate::commands::{run_plan, unbegun};
 use arguments::{ItemWords, read_plan};
@@ -44,8 +45,8 @@ use wq_io::{Sink, Source};
 /// What was printed is handed on to the outside before the next line is read, and when the run ends with Ok or stops because of its input
 /// (`handed` of `IsPlayed`, and of `Ending` of following).
 ///
-/// `words` are the arguments, and `keys` key the hashes of terms. `world` has taken no delivery yet and has no horizon; the call gives it
-/// back as the run leaves it. A replay or a drill begins with the first version of the mapping, whichever is in force in `world`, or with
+/// `words` are the arguments, and `keys` key the hashes of terms. `world` has taken no delivery yet, has no horizon and isn't lean; the call
+/// gives it back as the run leaves it. A replay or a drill begins with the first version of the mapping, whichever is in force in `world`, or with
 /// the world of a snapshot. A follower leaves the version as it is.
 pub fn run<S: Source, R: Revisions, K: Sink, F: Snapshots>(
     alloc: Global,
@@ -55,6 +56,7 @@ pub fn run<S: Source, R: Revisions, K: Sink, F: Snapshots>(
     world: World,
 ) -> (Status, World)
     requires world { world.replay ≡ nothing_delivered }
+    requires lean { world.limit.lean ≡ false }
 
     // If the arguments aren't understood, or the text of the routes isn't, the run reads, writes and delivers nothing. The routes are read
     // after memory is asked for, so the status may be OutOfMemory instead.
@@ -88,11 +90,12 @@ pub fn run<S: Source, R: Revisions, K: Sink, F: Snapshots>(
         FollowEnding result.0 choices
         (follow_moment S.Source K.Sink ports.old.events ports.old.out)
         (follow_moment S.Source K.Sink ports.new.events ports.new.out)
-        × (ports.new ≡ record ports.old { events = ports.new.events; out = ports.new.out }) × (result.1 ≡ record world { limit = default_max_terms }) }
+        × (ports.new ≡ record ports.old { events = ports.new.events; out = ports.new.out }) × (result.1 ≡ record world { limit = whole default_max_terms }) }
 
-    // Once the arguments are understood, the world ends with the plan's limit, however the run ends, and what it holds stays within it.
+    // Once the arguments are understood, the world ends with the plan's limit, however the run ends, and what it holds stays within it. A
+    // run may be refused memory before its world is lean.
     ensures limit { (plan : ThePlan) → plan_of (map (λ w. string_bytes w) words.now) ≡ Some plan →
-        (result.0 ≡ Status.BadWords) ⊎ ((result.1.limit ≡ limit_of_plan plan) × HoldsWithin (limit_of_plan plan) result.1) }
+        (result.0 ≡ Status.BadWords) ⊎ KeepsLimit result.0 (limit_of_plan plan) result.1 }
 
     // No snapshot is kept or begun without `--save`, nor, without `--every`, by a run that stops for another cause than a failed write or
     // refused memory. What a replay keeps without `--every` comes last (`snapshot` of `ReplayEnding`).
@@ -118,6 +121,7 @@ fn run_judged<S: Source, R: Revisions, K: Sink, F: Snapshots>(
     world: World,
 ) -> (Status, World)
     requires world { world.replay ≡ nothing_delivered }
+    requires lean { world.limit.lean ≡ false }
     requires plan { IsSome (plan_of (map (λ w. string_bytes w) words.now)) }
     ensures { (plan : ThePlan) → plan_of (map (λ w. string_bytes w) words.now) ≡ Some plan → PlanEnding S.Source R.Revisions K.Sink F.Snapshots plan result.0 ports.old ports.new world result.1 }
 {

@@ -1,13 +1,13 @@
 // The lines of the input are taken one by one.
 
-ghost use Rattle.std.specs.Prelude.{◌≡◌, ◌-◌, ◌^◌, ◌<◌, ◌≤◌, ◌⊎◌, ◌∷◌, [], ◌&&◌, Ok, Err, None, IfErr, IfOk, IfSome, OnOk};
+ghost use Rattle.std.specs.Prelude.{◌≡◌, ◌-◌, ◌^◌, ◌<◌, ◌≤◌, ◌⊎◌, ◌∷◌, [], ◌&&◌, false, Ok, Err, None, IfErr, IfOk, IfSome, OnOk};
 ghost use Rattle.event_line.specs.{declared.faults.LineCause.LineCause, Line.delivery_of};
 ghost use Rattle.checkpoint.specs.Archive.{Keeps, archive};
 ghost use Rattle.run_model.specs.Delivering.{KeepsIf};
 ghost use Rattle.run_model.specs.{Moment.HaveGoneOn, Headline.Stopped, Moment.moment, Moved.GoesOn, Moved.run_in, Reading.TakesByNeed};
 ghost use Rattle.run_model.specs.{Moment.HasSavedOn, Moment.is_save_due, Moment.numbers_after, Moved.snapshot_in};
-ghost use Rattle.run_model.specs.{Remapping.mapped_in, Delivering.HasTaken, Taking.IsStanding};
-ghost use Rattle.arguments.specs.Options.{max_bytes_of, max_terms_of};
+ghost use Rattle.run_model.specs.{declared.report.Report.TheVariants.Answers, Moment.limit_of, Remapping.mapped_in, Delivering.HasTaken, Taking.IsStanding};
+ghost use Rattle.arguments.specs.Options.{max_bytes_of};
 
 use crate::context::{Context, Incoming};
 use crate::delivering::deliver;
@@ -34,7 +34,8 @@ pub fn take_lines<S: Source, R: Revisions, K: Sink, F: Snapshots>(
     replay: &mut Replay,
 ) -> Result<LinesTaken, Stop>
     requires stands { IsStanding replay.old.world.replay (mapped_in replay.old.world) }
-    requires limit { replay.old.world.limit ≡ max_terms_of task.now.options.now }
+    requires limit { replay.old.world.limit ≡ limit_of task.now.options.now }
+    requires lean { task.now.report ≡ Answers → task.now.options.now.lean ≡ false }
     ensures ok { IfOk result (λ taken. HasTaken (run_in replay.old task.now.report (R.contents ports.old.revisions) task.now.options.now) taken
         (moment S.Source R.Revisions K.Sink F.Snapshots ports.old replay.old.world)
         (moment S.Source R.Revisions K.Sink F.Snapshots ports.new replay.new.world)) }

@@ -24,6 +24,9 @@ use Rattle.drill_replay.specs.Told.{terms_there, versions_told}
 use Rattle.drill_replay.proofs.Fits.{ByTwoTold, fits}
 use Rattle.drill_replay.proofs.Named.{AreAmong, GivesThere, HoldsNamed, IsNamed, WorldNamed, end_named, entered_named, first_among, following_named, last_among, some_named, source_gives, wanted_named}
 use Rattle.run_model.proofs.{FromNothing.led_first, FromNothing.version_first, Reading.at_known}
+use Rattle.fetched_pages.specs.Meaning.{meaning}
+use Rattle.replay_model.specs.Versions.{meaning_by}
+use Rattle.session_laws.proofs.Needs.{few_needs}
 use Rattle.session_laws.proofs.Beginnings.{Begins, begins-all, begins-events, begins-fewer, begins-in_force, begins-mapping, first_begins}
 
 -- ---- versions
@@ -127,10 +130,10 @@ module _ (run : Run) (before now : Moment) (bytes : List ℕ) (ds : List Deliver
         }));
       }
 
-  module _ (enough : distinct (terms_there contents ds) ≤ run.environment.limit) where
+  module _ (enough : distinct (terms_there contents ds) ≤ run.environment.limit.terms) where
     never_over : (x : EntityId) (rev : ℕ) (page : Bytes) → Brought → IsNamed (events ds) x rev → contents rev ≡ Some page → HasNoRoom run.environment.limit records now.stage.mapped x rev page → ⊥
     never_over x rev page brought named there over =
-        no_number _ _ _ over (fits contents ds records now.stage.mapped.version now.stage.mapped.by_two brought.mapped.version brought.mapped.by_two (λ y. (brought.named.pages y).held) x rev page named there) enough
+        no_number _ _ _ over (few_needs run.environment.limit.lean (meaning_by meaning now.stage.mapped.by_two) (meaning now.stage.mapped.version) records x (Some (record { revision = rev; content = page })) _ (fits contents ds records now.stage.mapped.version now.stage.mapped.by_two brought.mapped.version brought.mapped.by_two (λ y. (brought.named.pages y).held) x rev page named there)) enough
 
     never_full : IsFull run.environment now.stage.world now.stage.mapped → Brought → ⊥
     never_full full brought =

@@ -6,14 +6,14 @@ use Rattle.replay_model.specs.{Play.Replies, Transcript.said}
 use Rattle.fetched_pages.specs.Meaning.{meaning}
 use Rattle.patch_stream.specs.Stream.{changes, steps_of_play, stream_text}
 use Rattle.snapshot.specs.{File.saved_in_bytes, Whole.Saved, declared.counts.Counts.Counts}
-use Rattle.world.specs.WorldState.{WorldState}
+use Rattle.world.specs.{Limit.Limit, WorldState.WorldState}
 use Rattle.checkpoint.specs.Saved.{saved_of}
 use Rattle.following.specs.Input.{Input}
-use Rattle.arguments.specs.Options.{closes, max_terms_of}
+use Rattle.arguments.specs.Options.{closes}
 use Rattle.run_model.specs.declared.report.Report.TheVariants.{Answers, Changes}
 use Rattle.run_model.specs.{declared.status.Status.Status, declared.stop.Stop.Stop}
 use Rattle.run_model.specs.Headline.{Ending, HasFates, numbers_saved}
-use Rattle.run_model.specs.Moment.{Moment, Run, Stage, behind, start_in, start_of, sections_of, HasSaved, kept_last, saved_at, snapshot_text}
+use Rattle.run_model.specs.Moment.{Moment, Run, Stage, behind, start_in, start_of, sections_of, HasSaved, kept_last, saved_at, snapshot_text, limit_of}
 use Rattle.run_model.specs.OneRun.{CountsQuestions, HoldsAndNames, StandsAfter, printed_by, printed_in_all, said_from_start, state_ended, steps_ended, TwoRuns, all_deliveries, all_replies, first_deliveries, first_replies, horizon_of}
 use Rattle.run_model.specs.{Resuming.IsResumed, Resuming.IsSnapshotOf, Resuming.with_loaded, Stop.stop_of}
 use Rattle.run_model.proofs.{Reading.at_known, Saves.last_kept}
@@ -51,18 +51,18 @@ begins_there status run before now stage numbers bytes resumed left saved h repl
     (stands_there run before resumed.rest resumed.world resumed.numbers stage numbers same h replies ds stands, counts_same resumed.world resumed.numbers stage numbers same)
 
 -- the same of a world that was loaded of such bytes
-pub loads_same : (limit : ℕ) (from : Option (List ℕ)) (world : WorldState) (counts : Counts) (stage : Stage) (numbers : Counts) (bytes : List ℕ) → IsSnapshotOf from limit world counts →
+pub loads_same : (limit : Limit) (from : Option (List ℕ)) (world : WorldState) (counts : Counts) (stage : Stage) (numbers : Counts) (bytes : List ℕ) → IsSnapshotOf from limit world counts →
     from ≡ Some bytes → saved_in_bytes bytes ≡ Some (saved_at stage numbers) → saved_of world counts ≡ saved_at stage numbers
 loads_same limit from world counts stage numbers bytes loaded left saved =
     let here : saved_in_bytes bytes ≡ Some (saved_of world counts) = at_known from bytes (λ b. saved_in_bytes b ≡ Some (saved_of world counts)) left loaded.saved in
     let alike : Some (saved_of world counts) ≡ Some (saved_at stage numbers) = sym here ∙ saved in
     cc
 
-pub loads_there : (run : Run) (before : Moment) (rest : Input) (world : WorldState) (counts : Counts) (stage : Stage) (numbers : Counts) (bytes : List ℕ) → IsSnapshotOf before.resumed.left (max_terms_of run.choices) world counts →
+pub loads_there : (run : Run) (before : Moment) (rest : Input) (world : WorldState) (counts : Counts) (stage : Stage) (numbers : Counts) (bytes : List ℕ) → IsSnapshotOf before.resumed.left (limit_of run.choices) world counts →
     before.resumed.left ≡ Some bytes → saved_in_bytes bytes ≡ Some (saved_at stage numbers) →
     (h : Option ℕ) (replies : Replies) (ds : List Delivery) → StandsAfter h replies ds (start_in numbers stage) → StandsAfter h replies ds (start_of (behind counts run) (with_loaded before rest world)) × (counts ≡ numbers)
 loads_there run before rest world counts stage numbers bytes loaded left saved h replies ds stands =
-    let same = loads_same (max_terms_of run.choices) before.resumed.left world counts stage numbers bytes loaded left saved in
+    let same = loads_same (limit_of run.choices) before.resumed.left world counts stage numbers bytes loaded left saved in
     (stands_there run before rest world counts stage numbers same h replies ds stands, counts_same world counts stage numbers same)
 
 -- what a run saves is told where snapshots are

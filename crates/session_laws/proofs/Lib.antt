@@ -13,6 +13,7 @@ mod Fronts
 mod GoesOn
 mod Killed
 mod Mirrored
+mod Needs
 mod Onward
 mod OneRun
 mod Opening

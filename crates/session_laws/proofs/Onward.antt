@@ -14,11 +14,11 @@ use Rattle.replica.proofs.{Determined.reads_one_way, LineFeeds.splits_into_lines
 use Rattle.patch_stream.specs.Stream.{Step, changes, is_change, numbered_from, steps_due}
 use Rattle.snapshot.specs.{File.saved_in_bytes, Whole.Saved}
 use Rattle.checkpoint.specs.Saved.{saved_of}
-use Rattle.arguments.specs.Options.{closes, max_bytes_of, max_terms_of}
+use Rattle.arguments.specs.Options.{closes, max_bytes_of}
 use Rattle.run_model.specs.{declared.report.Report.TheVariants.Changes, declared.stop.Stop.Stop}
 use Rattle.run_model.specs.Course.{along, course_after, course_ended, led_to, steps_of_delivery, stream_text_from, version_at, version_since}
 use Rattle.run_model.specs.Headline.{Ending, IsSnapshotBehind, StandsAtPage, Stopped, course_of, numbers_behind}
-use Rattle.run_model.specs.Moment.{Beginning, Moment, Run, behind, numbers_of, saved_at, sections_of, standing, start_of}
+use Rattle.run_model.specs.Moment.{Beginning, Moment, Run, behind, numbers_of, saved_at, sections_of, standing, start_of, limit_of}
 use Rattle.run_model.specs.{OneRun.deliveries_of, Remapping.Mapped, Report.bytes_of, Resuming.with_loaded}
 use Rattle.run_model.specs.{Taking.judgement, Taking.replies_there, Reading.AreDeliveries}
 use Rattle.run_model.proofs.{Along.version-along, Reading.at_known}
@@ -176,7 +176,7 @@ module _ (run later : Run) (before now again done : Moment) (runs : WasKilledAnd
   replies = replies_at contents before
 
   same : saved_of runs.resumed.world runs.resumed.numbers ≡ saved_at runs.kept.stage (numbers_behind runs.kept)
-  same = loads_same (max_terms_of later.choices) again.resumed.left runs.resumed.world runs.resumed.numbers runs.kept.stage (numbers_behind runs.kept) runs.text runs.resumed.loaded runs.same read
+  same = loads_same (limit_of later.choices) again.resumed.left runs.resumed.world runs.resumed.numbers runs.kept.stage (numbers_behind runs.kept) runs.text runs.resumed.loaded runs.same read
 
   world_same : loaded.stage.world ≡ runs.kept.stage.world
   world_same = ap (λ (s : Saved). s.state) same

@@ -5,7 +5,7 @@ use Rattle.replay_model.specs.{Play.Replies, ReplayState.ReplayState, ReplayStat
 use Rattle.snapshot.specs.{File.IsFitSaved, File.file_text, File.saved_in_bytes, Waiting.IsAtRest, Whole.Saved}
 use Rattle.fetched_pages.specs.Meaning.{meaning}
 use Rattle.holders.specs.Roomed.{room_with}
-use Rattle.world.specs.WorldState.{WorldState}
+use Rattle.world.specs.{Limit.Limit, Limit.stored_by, Limit.whole, WorldState.WorldState}
 use Rattle.checkpoint.specs.declared.fault.LoadFault.{LoadFault}
 use Rattle.checkpoint.specs.declared.fault.LoadFault.TheVariants.{ReadFault as NotRead, TooLong as OverLength, BadLine, Full, OutOfMemory as LoadOutOfMemory}
 use Rattle.checkpoint.specs.{Causes.IsFileOverfull, Causes.IsNoSnapshot, Causes.IsNoSnapshotWithin, Causes.longest_file, Loading.IsLoadable}
@@ -16,7 +16,7 @@ use Rattle.run_model.specs.declared.status.Status.TheVariants.{Ok as Ended, BadW
 use Rattle.run_model.specs.declared.stop.Stop.{Stop}
 use Rattle.run_model.specs.declared.stop.Stop.TheVariants.{BadSnapshot, OutOfMemory, StoreFull}
 use Rattle.run_model.specs.Headline.{Ending, Stopped, numbers_saved}
-use Rattle.run_model.specs.Moment.{Moment, Run, Stage, behind, start_of, HasSaved, kept_last, saved_at}
+use Rattle.run_model.specs.Moment.{Moment, Run, Stage, behind, limit_of, start_of, HasSaved, kept_last, saved_at}
 use Rattle.run_model.specs.OneRun.{StandsAfter, deliveries_of, replies_with}
 use Rattle.run_model.specs.Resuming.{AllowsHorizon, IsNotResumed, IsRefusedFor, IsResumed, ResumeEnding, with_loaded}
 use Rattle.run_model.specs.Stop.{stop_of, stop_of_load}
@@ -24,8 +24,8 @@ use Rattle.session_laws.specs.Complete.{IsStill}
 use Rattle.run_model.proofs.Saves.{last_kept}
 use Rattle.session_laws.proofs.{Complete.not_risen, OneRun.holds_are, OneRun.next_stands}
 
--- the world that a stage is, with room for so many terms
-abbrev pub world_in : ℕ → Stage → WorldState
+-- the world that a stage is, with this limit
+abbrev pub world_in : Limit → Stage → WorldState
 world_in limit now = record { replay = now.world; limit = limit; mapping = now.mapped.version; by_two = all_by now.mapped.version now.world.played.records }
 
 -- an ending with a stop is one that stopped
@@ -69,7 +69,7 @@ module _ (h : Option ℕ) (earlier : Replies) (ds : List Delivery) (run : Run) (
       last_kept run (start_of run before) _ before.snapshot.kept ending.on_the_way now.snapshot (file_text saved) told ending.kept
       (subst (λ closed. HasSaved closed (file_text saved) ending.on_the_way now.snapshot.kept) open_still ending.saved)
 
-  pub loadable : (limit : ℕ) → IsFitSaved saved → AreWithin (numbers_saved ending) → IsLoadable (world_in limit now.stage) (numbers_saved ending)
+  pub loadable : (limit : Limit) → IsFitSaved saved → AreWithin (numbers_saved ending) → IsLoadable (world_in limit now.stage) (numbers_saved ending)
   loadable limit fit within = record {
     rests = saved_rests;
     fits = fit;
@@ -89,7 +89,7 @@ module _ (h : Option ℕ) (earlier : Replies) (ds : List Delivery) (run : Run) (
     at_bytes P here = subst (λ (o : Option (List ℕ)). IfSome o P) left_is here
 
     -- no line is refused
-    pub none_refused : ((n : ℕ) → IsLoadable (world_in 0 now.stage) (numbers_saved ending) → IsNoSnapshot (file_text saved) n → ⊥) → saved_in_bytes (file_text saved) ≡ Some saved → AllowsHorizon later.choices h → (status : Status) →
+    pub none_refused : ((n : ℕ) → IsLoadable (world_in (whole 0) now.stage) (numbers_saved ending) → IsNoSnapshot (file_text saved) n → ⊥) → saved_in_bytes (file_text saved) ≡ Some saved → AllowsHorizon later.choices h → (status : Status) →
         ResumeEnding (stop_of status) later then_before then_now → (n : ℕ) → stop_of status ≡ Some (BadSnapshot n) → ⊥
     none_refused lines back allowed status ended n is = ⊎_elim refused resumed ended
       where
@@ -99,7 +99,7 @@ module _ (h : Option ℕ) (earlier : Replies) (ds : List Delivery) (run : Run) (
         of_fault Full stop why = cc
         of_fault LoadOutOfMemory stop why = cc
         of_fault (BadLine m) stop why = ⊎_elim
-            (λ bad. lines m (loadable 0 fit within) (at_bytes (λ bytes. IsNoSnapshotWithin (max_terms_of later.choices) bytes m) bad).0)
+            (λ bad. lines m (loadable (whole 0) fit within) (at_bytes (λ bytes. IsNoSnapshotWithin (limit_of later.choices) bytes m) bad).0)
             (λ other.
             let there : saved_in_bytes (file_text saved) ≡ Some (saved_of other.1.world other.1.numbers) = at_bytes (λ bytes. saved_in_bytes bytes ≡ Some (saved_of other.1.world other.1.numbers)) other.1.loaded.saved in
             let both : Some (saved_of other.1.world other.1.numbers) ≡ Some saved = sym there ∙ back in
@@ -117,20 +117,20 @@ module _ (h : Option ℕ) (earlier : Replies) (ds : List Delivery) (run : Run) (
             subst (λ (stop : Option Stop). MatchOption stop (Ending it from then_now) (λ s. Stopped s it from then_now)) is x.ending.outcome
 
     -- and there is no room only where there is none for what is held
-    pub full_for_itself : (IsLoadable (world_in 0 now.stage) (numbers_saved ending) → IsFileOverfull (max_terms_of later.choices) (file_text saved) →
-        max_terms_of later.choices < room_with (meaning_by meaning (all_by now.stage.mapped.version now.stage.world.played.records)) now.stage.world.played.records []) →
+    pub full_for_itself : (IsLoadable (world_in (whole 0) now.stage) (numbers_saved ending) → IsFileOverfull (limit_of later.choices) (file_text saved) →
+        max_terms_of later.choices < room_with (stored_by later.choices.lean (meaning_by meaning (all_by now.stage.mapped.version now.stage.world.played.records)) now.stage.world.played.records) now.stage.world.played.records []) →
         (status : Status) → IsNotResumed (stop_of status) later then_before then_now → stop_of status ≡ Some StoreFull →
-        max_terms_of later.choices < room_with (meaning_by meaning (all_by now.stage.mapped.version now.stage.world.played.records)) now.stage.world.played.records []
+        max_terms_of later.choices < room_with (stored_by later.choices.lean (meaning_by meaning (all_by now.stage.mapped.version now.stage.world.played.records)) now.stage.world.played.records) now.stage.world.played.records []
     full_for_itself room status x is = of_fault x.fault (sym x.is ∙ is) x.cause
       where
         of_fault : (fault : LoadFault) → Some (stop_of_load fault) ≡ Some StoreFull → IsRefusedFor fault later.choices then_before.resumed.left then_before.resumed.faults then_now.resumed.faults →
-            max_terms_of later.choices < room_with (meaning_by meaning (all_by now.stage.mapped.version now.stage.world.played.records)) now.stage.world.played.records []
+            max_terms_of later.choices < room_with (stored_by later.choices.lean (meaning_by meaning (all_by now.stage.mapped.version now.stage.world.played.records)) now.stage.world.played.records) now.stage.world.played.records []
         of_fault NotRead stop why = cc
         of_fault OverLength stop why = cc
         of_fault (BadLine m) stop why = cc
         of_fault LoadOutOfMemory stop why = cc
         of_fault Full stop why = ⊎_elim
-            (λ over. room (loadable 0 fit within) (at_bytes (IsFileOverfull (max_terms_of later.choices)) over))
+            (λ over. room (loadable (whole 0) fit within) (at_bytes (IsFileOverfull (limit_of later.choices)) over))
             (λ other. let never : Full ≡ BadLine 1 = other.0 in cc)
             why
 

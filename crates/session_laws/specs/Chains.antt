@@ -6,11 +6,11 @@ use Rattle.replica.specs.declared.record.PatchRecord.{PatchRecord}
 use Rattle.patch_stream.specs.Stream.{Step, has_change, is_change, record_of_step, step}
 use Rattle.snapshot.specs.{declared.counts.Counts.Counts, File.saved_in_bytes}
 use Rattle.following.specs.Input.{Input}
-use Rattle.arguments.specs.Options.{closes, max_terms_of}
+use Rattle.arguments.specs.Options.{closes}
 use Rattle.run_model.specs.declared.report.Report.{Report}
 use Rattle.run_model.specs.declared.report.Report.TheVariants.{Answers, Changes}
 use Rattle.run_model.specs.Headline.{Ending, IsSnapshotBehind, numbers_behind, numbers_saved}
-use Rattle.run_model.specs.Moment.{IsFirst, Moment, Run, Stage, behind, saved_at, start_of}
+use Rattle.run_model.specs.Moment.{IsFirst, Moment, Run, Stage, behind, saved_at, start_of, limit_of}
 use Rattle.run_model.specs.Resuming.{IsResumed, IsSnapshotOf, with_loaded}
 use Rattle.session_laws.specs.{Complete.steps_made, Live.steps_behind}
 
@@ -46,7 +46,7 @@ pub data RunOn : Bool → Stage → Counts → List Step → List Numbered → T
       (changes ++ numbered_in run.environment.report (steps_made (behind resumed.numbers run) (with_loaded before resumed.rest resumed.world) now resumed.ending.outcome))
   later_cut : (stage : Stage) (numbers : Counts) (steps : List Step) (changes : List Numbered) (bytes : List ℕ) (run : Run) (before : Moment) (rest : Input) (world : WorldState) (counts : Counts) (taken : List Delivery) (text : List ℕ) →
       RunOn false stage numbers steps changes → saved_in_bytes bytes ≡ Some (saved_at stage numbers) → before.resumed.left ≡ Some bytes →
-      IsSnapshotOf before.resumed.left (max_terms_of run.choices) world counts → (kept : IsSnapshotBehind (behind counts run) (start_of (behind counts run) (with_loaded before rest world)) taken text) →
+      IsSnapshotOf before.resumed.left (limit_of run.choices) world counts → (kept : IsSnapshotBehind (behind counts run) (start_of (behind counts run) (with_loaded before rest world)) taken text) →
       RunOn false kept.stage (numbers_behind kept) (steps ++ steps_behind kept) (changes ++ numbered_in run.environment.report (steps_behind kept))
 
 -- their records that were written, the first change having this number

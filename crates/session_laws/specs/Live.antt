@@ -7,10 +7,10 @@ use Rattle.replay_model.specs.{Acceptance.version_in_force, Play.Replies}
 use Rattle.patch_stream.specs.Stream.{Step, changes, is_change}
 use Rattle.snapshot.specs.{declared.counts.Counts.Counts, File.saved_in_bytes}
 use Rattle.following.specs.Input.{Input}
-use Rattle.arguments.specs.Options.{closes, max_terms_of}
+use Rattle.arguments.specs.Options.{closes}
 use Rattle.run_model.specs.{declared.report.Report.TheVariants.Changes, Course.course_after}
 use Rattle.run_model.specs.Headline.{Ending, IsSnapshotBehind, numbers_behind, numbers_saved}
-use Rattle.run_model.specs.Moment.{Beginning, IsFirst, Moment, Run, Stage, behind, saved_at, start_in, start_of}
+use Rattle.run_model.specs.Moment.{Beginning, IsFirst, Moment, Run, Stage, behind, saved_at, start_in, start_of, limit_of}
 use Rattle.run_model.specs.{OneRun.StandsAfter, OneRun.state_ended, OneRun.steps_ended, Remapping.mapped_by}
 use Rattle.run_model.specs.Resuming.{IsResumed, IsSnapshotOf, with_loaded}
 use Rattle.session_laws.specs.Complete.{steps_made}
@@ -32,7 +32,7 @@ pub data GoOn : Bool → Stage → Counts → List Step → Type 0 where
       (steps ++ steps_made (behind resumed.numbers run) (with_loaded before resumed.rest resumed.world) now resumed.ending.outcome)
   later_cut : (stage : Stage) (numbers : Counts) (steps : List Step) (bytes : List ℕ) (run : Run) (before : Moment) (rest : Input) (world : WorldState) (counts : Counts) (taken : List Delivery) (text : List ℕ) →
       GoOn false stage numbers steps → saved_in_bytes bytes ≡ Some (saved_at stage numbers) → before.resumed.left ≡ Some bytes → run.environment.report ≡ Changes →
-      IsSnapshotOf before.resumed.left (max_terms_of run.choices) world counts → (kept : IsSnapshotBehind (behind counts run) (start_of (behind counts run) (with_loaded before rest world)) taken text) →
+      IsSnapshotOf before.resumed.left (limit_of run.choices) world counts → (kept : IsSnapshotBehind (behind counts run) (start_of (behind counts run) (with_loaded before rest world)) taken text) →
       GoOn false kept.stage (numbers_behind kept) (steps ++ steps_behind kept)
 
 -- one replay of these deliveries: it leads to this world, whose pages are mapped by the version in force there, it has these steps, and the

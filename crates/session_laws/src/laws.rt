@@ -14,6 +14,7 @@ ghost use Rattle.replay_model.specs.{ReplayState.ended, ReplayState.following, R
 ghost use Rattle.replay_model.specs.{Records.Bytes, Records.is_settled, Records.record_of, Versions.all_by, Versions.meaning_by};
 ghost use Rattle.fetched_pages.specs.Meaning.{meaning};
 ghost use Rattle.holders.specs.Roomed.{room_with};
+ghost use Rattle.world.specs.Limit.{stored_by};
 ghost use Rattle.snapshot.specs.{File.IsFitSaved, File.saved_in_bytes, declared.counts.Counts.Counts};
 ghost use Rattle.triple_store.specs.Room.{distinct};
 ghost use Rattle.wq_io.specs.Streams.{after_known};
@@ -61,7 +62,7 @@ pub fn good_input_is_replayed()
 pub fn told_pages_have_room()
     ensures { (run : Run) (before now : Moment) (contents : ℕ → Option Bytes) (bytes : List ℕ) (ds : List Delivery) →
         IsFirst (start_of run before) → Stopped Stop.StoreFull run before now → before.input.left ≡ Some bytes → AreDeliveries (max_bytes_of run.choices) bytes ds →
-        run.environment.known ≡ Some contents → distinct (terms_there contents ds) ≤ run.environment.limit → ⊥ }
+        run.environment.known ≡ Some contents → distinct (terms_there contents ds) ≤ run.environment.limit.terms → ⊥ }
 {}
 
 /// A first replay or patch stream over told contents ends with Ok or OutOfMemory if the arguments are understood, each line of the input is
@@ -73,7 +74,7 @@ pub fn fitting_input_is_replayed()
         before.input.left ≡ Some bytes → AreDeliveries (max_bytes_of run.choices) bytes ds →
         IsStill before.input.faults now.input.faults → IsStill before.stage.output.faults now.stage.output.faults →
         (IsSaving run.choices → IsStill before.snapshot.faults now.snapshot.faults) →
-        run.environment.known ≡ Some contents → distinct (terms_there contents ds) ≤ run.environment.limit →
+        run.environment.known ≡ Some contents → distinct (terms_there contents ds) ≤ run.environment.limit.terms →
         (status ≡ Status.Ok) ⊎ (status ≡ Status.OutOfMemory) }
 {}
 
@@ -221,7 +222,7 @@ pub fn resumed_runs_begin_where_others_stood()
 {}
 
 /// A run can go on from whatever a run that ended with Ok saved: it refuses no line of that snapshot unless its options name another
-/// horizon, and lacks room only if there is none for what is held. The numbers have to be such that a run may go on with them.
+/// horizon, and lacks room only if there is none for what is stored of it. The numbers have to be such that a run may go on with them.
 pub fn saved_worlds_are_gone_on_from()
     ensures lines { (h : Option ℕ) (earlier : Replies) (ds : List Delivery) (run : Run) (before now : Moment) → StandsAfter h earlier ds (start_of run before) → (ending : Ending run before now) →
         closes run.choices ≡ false → IsSome before.snapshot.kept → IsFitSaved (saved_at now.stage (numbers_saved ending)) → AreWithin (numbers_saved ending) →
@@ -231,7 +232,7 @@ pub fn saved_worlds_are_gone_on_from()
         closes run.choices ≡ false → IsSome before.snapshot.kept → IsFitSaved (saved_at now.stage (numbers_saved ending)) → AreWithin (numbers_saved ending) →
         (later : Run) (then_before then_now : Moment) → then_before.resumed.left ≡ (kept_last now.snapshot) →
         (status : Status) → IsNotResumed (stop_of status) later then_before then_now → stop_of status ≡ Some Stop.StoreFull →
-        max_terms_of later.choices < room_with (meaning_by meaning (all_by now.stage.mapped.version now.stage.world.played.records)) now.stage.world.played.records [] }
+        max_terms_of later.choices < room_with (stored_by later.choices.lean (meaning_by meaning (all_by now.stage.mapped.version now.stage.world.played.records)) now.stage.world.played.records) now.stage.world.played.records [] }
 {
     replays_can_be_saved();
     snapshots_read_back();
@@ -247,7 +248,7 @@ pub fn good_input_goes_on_from_saved_worlds()
         closes run.choices ≡ false → IsSome before.snapshot.kept → IsFitSaved (saved_at now.stage (numbers_saved ending)) → AreWithin (numbers_saved ending) →
         IfSome (kept_last now.snapshot) (λ text. length text ≤ longest_file) →
         (later : Run) (then_before then_now : Moment) → then_before.resumed.left ≡ (kept_last now.snapshot) → AllowsHorizon later.choices h →
-        room_with (meaning_by meaning (all_by now.stage.mapped.version now.stage.world.played.records)) now.stage.world.played.records [] ≤ max_terms_of later.choices →
+        room_with (stored_by later.choices.lean (meaning_by meaning (all_by now.stage.mapped.version now.stage.world.played.records)) now.stage.world.played.records) now.stage.world.played.records [] ≤ max_terms_of later.choices →
         (status : Status) → ResumeEnding (stop_of status) later then_before then_now → (status ≡ Status.BadWords → ⊥) →
         (bytes : List ℕ) (items : List Delivery) → then_before.input.left ≡ Some bytes → AreDeliveries (max_bytes_of later.choices) bytes items →
         IsStill then_before.resumed.faults then_now.resumed.faults → IsStill then_before.input.faults then_now.input.faults →

@@ -1,9 +1,9 @@
 -- Graphs follow each step of a world.
 use Rattle.std.proofs.Common.{◌≡◌, ◌≢◌, refl, sym, ◌∙◌, ap, subst, ℕ, ◌≤◌, Bool, true, false, not, cond, List, length, Option, None, Some, IfSome, Result, Ok, Err, option_map, ⊎_elim, unwrap_or, arith}
 use Rattle.std.specs.FinMap as map
-use Rattle.std.specs.{Cmp.eq_by_cmp_equiv, Ordering.eq_by_cmp}
+use Rattle.std.specs.{Cmp.eq_by_cmp_equiv, List.AllByRecursion, Ordering.eq_by_cmp}
 use Rattle.std.proofs.lemmas.List.Sums.{prefix_len-le-length}
-use Rattle.rdf_term.specs.declared.triple.Triple.{Triple}
+use Rattle.rdf_term.specs.{declared.triple.Triple.Triple, Fit.HasFitAndShortTerms}
 use Rattle.entity_json.specs.Document.{document_of}
 use Rattle.entity_model.specs.declared.document.Document.{Document}
 use Rattle.entity_model.specs.declared.document.Document.TheVariants.{Entity as AnEntity, Redirect, Lexeme as ALexeme}
@@ -22,13 +22,13 @@ use Rattle.world.specs.{declared.applied.AppliedEvent.AppliedEvent, declared.app
 use Rattle.world.specs.declared.applied.Outcome.TheVariants.{Same, Stored, Dropped, Sided}
 use Rattle.world.specs.{declared.applied.RoutedPage.RoutedPage, Applying.Applies, Applying.outcome_of_reply}
 use Rattle.holdings.specs.Mapped.{AreTriplesOf}
-use Rattle.world.specs.Routed.{GivesPage, routing_by}
+use Rattle.world.specs.{Limit.Limit, Routed.GivesPage, Routed.routing_by}
 use Rattle.holders.specs.Holding.{AreHolders, with_version_of}
 use Rattle.world.specs.WorldState.{WorldState, by_two_after, next_stale, remapped}
 use Rattle.fetched_pages.specs.{Meaning.meaning, Routing.route_if, Routing.route_of_page}
 use Rattle.holders.proofs.{ByVersion.version_other, ByVersion.version_own, Records.id_tells}
 use Rattle.world.proofs.Giving.{recorded}
-use Rattle.splitting.specs.Graphs.{AreEntriesAfter, AreEntriesAnew, AreEntriesOf, IsSound}
+use Rattle.splitting.specs.Graphs.{AreEntriesAfter, AreEntriesAnew, AreEntriesOf, GraphsState, IsSound, MayBeFitFor, MayFollow}
 
 -- ---- routes
 
@@ -226,6 +226,10 @@ module _ (routes : List Route) (entries entries_now : Entries) (before : WorldSt
 
 -- ---- graphs
 
+-- a world that graphs follow isn't lean
+pub not_lean : (routes : List Route) (limit : ℕ) (world : WorldState) (entries : Entries) → AreEntriesOf routes limit world entries → world.limit.lean ≡ false
+not_lean routes limit world entries follows = ap (λ (l : Limit). l.lean) follows.limit_is
+
 -- graphs that follow a world follow it after an application
 pub graphs_applied : (routes : List Route) (limit : ℕ) (entries entries_now : Entries) (applied : AppliedEvent) (page : Option RoutedPage) → AreEntriesAfter applied.outcome applied.event.entity page entries entries_now
     → (known : Option Contents) (folder : List ℕ) (before after : WorldState) → Applies known folder before.replay after.replay applied → after.limit ≡ before.limit
@@ -235,15 +239,26 @@ pub graphs_applied : (routes : List Route) (limit : ℕ) (entries entries_now : 
 graphs_applied routes limit entries entries_now applied page is known folder before after a same by_two holders given follows = record {
   split = application_followed routes entries entries_now known folder before after applied page a follows.holders by_two given is follows.split;
   holders = holders;
-  limit_is = follows.limit_is ∙ sym same;
+  limit_is = same ∙ follows.limit_is;
 }
 
--- and after a page is remapped
+-- and after a page is remapped; a world that they follow isn't lean, so its triples are known
 pub graphs_remapped : (routes : List Route) (limit : ℕ) (entries entries_now : Entries) (x : EntityId) (triples : List Triple) → AreEntriesAnew (graph_of entries x) x triples entries entries_now
-    → (before : WorldState) → next_stale before ≡ Some x → AreTriplesOf before.mapping x (held_in before x) triples → AreHolders (remapped before).by_two before.replay.played.records
+    → (before : WorldState) → next_stale before ≡ Some x → (before.limit.lean ≡ false → AreTriplesOf before.mapping x (held_in before x) triples) → AreHolders (remapped before).by_two before.replay.played.records
     → AreEntriesOf routes limit before entries → AreEntriesOf routes limit (remapped before) entries_now
 graphs_remapped routes limit entries entries_now x triples is before next are holders follows = record {
-  split = remapping_followed routes entries entries_now before x triples follows.holders next are is follows.split;
+  split = remapping_followed routes entries entries_now before x triples follows.holders next (are (not_lean routes limit before entries follows)) is follows.split;
   holders = holders;
   limit_is = follows.limit_is;
 }
+
+-- the triples that a remapped page has then have fit and short terms, where there are graphs that aren't lost
+fit_in : (g : GraphsState) (entries : Option Entries) (before : WorldState) (version : MappingVersion) (x : EntityId) (held : Option (Held Bytes)) (triples : List Triple)
+    → IfSome entries (AreEntriesOf g.routes g.limit before) → (before.limit.lean ≡ false → AreTriplesOf version x held triples) → IfSome entries (λ _. AllByRecursion HasFitAndShortTerms triples)
+fit_in g None before version x held triples follows are = tt
+fit_in g (Some entries) before version x held triples follows are = (are (not_lean g.routes g.limit before entries follows)).fit
+
+pub may_be_fit : (graphs : Option GraphsState) (before : WorldState) (version : MappingVersion) (x : EntityId) (held : Option (Held Bytes)) (triples : List Triple)
+    → MayFollow graphs before → (before.limit.lean ≡ false → AreTriplesOf version x held triples) → MayBeFitFor graphs triples
+may_be_fit None before version x held triples follows are = tt
+may_be_fit (Some g) before version x held triples follows are = fit_in g g.entries before version x held triples follows are

@@ -9,14 +9,14 @@ use Rattle.subgraph.specs.{Entries.Entries, Laws.IsSplitOf, Laws.entry_held}
 use Rattle.graph_routes.specs.declared.routes.Route.{Route}
 use Rattle.fetched_pages.specs.Meaning.{meaning}
 use Rattle.holders.specs.Holding.{AreHolders}
-use Rattle.world.specs.{Routed.routing_by, WorldState.WorldState}
+use Rattle.world.specs.{Limit.Limit, Limit.whole, Routed.routing_by, WorldState.WorldState}
 use Rattle.splitting.specs.Graphs.{AreEntriesOf, Follow, GraphsState, MayFollow}
 
 -- a world to which nothing was delivered
-abbrev pub blank_world : Option ℕ → ℕ → MappingVersion → WorldState
+abbrev pub blank_world : Option ℕ → Limit → MappingVersion → WorldState
 blank_world h limit version = record { replay = nothing_delivered_within h; limit = limit; mapping = version; by_two = [] }
 
-pub fresh_follow : (g : GraphsState) (h : Option ℕ) (limit : ℕ) (version : MappingVersion) → g.entries ≡ Some map.empty → g.limit ≡ limit → Follow g (blank_world h limit version)
+pub fresh_follow : (g : GraphsState) (h : Option ℕ) (limit : Limit) (version : MappingVersion) → g.entries ≡ Some map.empty → limit ≡ whole g.limit → Follow g (blank_world h limit version)
 fresh_follow g h limit version fresh same =
     subst (λ (o : Option Entries). IfSome o (AreEntriesOf g.routes g.limit (blank_world h limit version))) (sym fresh) (record {
       split = record {
@@ -27,7 +27,7 @@ fresh_follow g h limit version fresh same =
     })
 
 -- the same, where there may be graphs
-pub fresh_may_follow : (graphs : Option GraphsState) (h : Option ℕ) (limit : ℕ) (version : MappingVersion) → IfSome graphs (λ (g : GraphsState). (g.entries ≡ Some map.empty) × (g.limit ≡ limit)) → MayFollow graphs (blank_world h limit version)
+pub fresh_may_follow : (graphs : Option GraphsState) (h : Option ℕ) (limit : Limit) (version : MappingVersion) → IfSome graphs (λ (g : GraphsState). (g.entries ≡ Some map.empty) × (limit ≡ whole g.limit)) → MayFollow graphs (blank_world h limit version)
 fresh_may_follow None h limit version fresh = tt
 fresh_may_follow (Some g) h limit version fresh = fresh_follow g h limit version fresh.0 fresh.1
 
@@ -39,7 +39,7 @@ still_of routes limit (Some entries) before after records by_two same follows =
     record {
       split = subst (λ r. There r after.by_two) (sym records) (subst (There before.replay.played.records) (sym by_two) follows.split);
       holders = subst (AreHolders after.by_two) (sym records) (subst (λ ids. AreHolders ids before.replay.played.records) (sym by_two) follows.holders);
-      limit_is = follows.limit_is ∙ sym same;
+      limit_is = same ∙ follows.limit_is;
     }
 
 -- graphs follow a world where what is held, by which versions it is mapped, and how many terms there may be, stays the same

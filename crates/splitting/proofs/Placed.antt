@@ -20,7 +20,7 @@ use Rattle.subgraph.specs.{Entries.Entries, Entries.Entry, Entries.graph_triples
 use Rattle.subgraph.specs.Split.{entry}
 use Rattle.subgraph.proofs.{Owning.gathered_from, Owning.gathered_if, Routed.fewer_terms}
 use Rattle.holders.specs.Roomed.{HasRoom}
-use Rattle.world.specs.{declared.applied.RoutedPage.RoutedPage, Routed.IsRouted, Routed.routing_by}
+use Rattle.world.specs.{declared.applied.RoutedPage.RoutedPage, Limit.HasRoomBy, Limit.Limit, Limit.whole, Routed.IsRouted, Routed.routing_by}
 use Rattle.holders.specs.Holding.{AreHolders}
 use Rattle.world.specs.WorldState.{WorldState}
 use Rattle.fetched_pages.specs.{Meaning.document_triples, Meaning.meaning, Meaning.triples_if, Routing.route_if, Routing.route_of_page}
@@ -82,8 +82,8 @@ module _ (routes : List Route) (world : WorldState) where
 
   -- a graph has room for the triples of an entity's page
   room_in : (entries : Entries) → AreAmong routes world entries → (x : EntityId) (e : Entry) → entry_in routes world x ≡ Some e → (triples : List Triple) → sorted triple_cmp triples ≡ e.triples
-      → HasRoom by_each world.limit records → (graph : ℕ) → terms_with (graph_triples entries graph) triples ≤ world.limit
-  room_in entries among x e is triples meant room graph =
+      → (limit : ℕ) → HasRoom by_each limit records → (graph : ℕ) → terms_with (graph_triples entries graph) triples ≤ limit
+  room_in entries among x e is triples meant limit room graph =
       let all = union triple_cmp by_each records in
       let few = fewer_terms (graph_triples entries graph ++ triples) (all ++ []) (λ t there. has-append triple_cmp t all [] ∙ or_left (has triple_cmp t all) false (⊎_elim
       (λ own. graph_in_union entries among graph t own)
@@ -101,10 +101,11 @@ module _ (routes : List Route) (world : WorldState) where
       ap (entry_held (routing_by routes) by_each x) held
       ∙ ap₂ (λ graph triples. Some (entry graph triples)) (sym is.graph) (ap (λ v. meaning v x h.revision h.content) version ∙ sym is.triples_are.meant)
 
-  pub page_has_room : IsReadyFor world → (entries : Entries) → AreAmong routes world entries → (x : EntityId) (h : Held Bytes) → held_in world x ≡ Some h → (page : RoutedPage) → IsRouted routes world.mapping x h page
-      → terms_with (graph_triples entries page.graph) page.triples ≤ world.limit
-  page_has_room ready entries among x h held page is =
-      room_in entries among x (entry page.graph (sorted triple_cmp page.triples)) (page_placed ready x h held page is) page.triples refl ready.room page.graph
+  pub page_has_room : IsReadyFor world → (limit : ℕ) → world.limit ≡ whole limit → (entries : Entries) → AreAmong routes world entries → (x : EntityId) (h : Held Bytes) → held_in world x ≡ Some h → (page : RoutedPage) → IsRouted routes world.mapping x h page
+      → terms_with (graph_triples entries page.graph) page.triples ≤ limit
+  page_has_room ready limit same entries among x h held page is =
+      let room : HasRoom by_each limit records = subst (λ (l : Limit). HasRoomBy l by_each records) same ready.room in
+      room_in entries among x (entry page.graph (sorted triple_cmp page.triples)) (page_placed ready x h held page is) page.triples refl limit room page.graph
 
   -- ---- one entity after the other
 
@@ -138,7 +139,7 @@ module _ (routes : List Route) (world : WorldState) where
       elsewhere (Some e) apart = get-inserted entries x y e false apart
 
   -- all entities have their entries
-  pub all_placed : IsReadyFor world → (limit : ℕ) → limit ≡ world.limit → (entries : Entries) → HaveEntries routes world (map.keys records) entries → AreEntriesOf routes limit world entries
+  pub all_placed : IsReadyFor world → (limit : ℕ) → world.limit ≡ whole limit → (entries : Entries) → HaveEntries routes world (map.keys records) entries → AreEntriesOf routes limit world entries
   all_placed ready limit same entries have = record {
     split = record { entry_is = λ x. have x ∙ ap (λ b. cond b (entry_in routes world x) None) (sym (map.contains_key-keys records x)) ∙ there x (map.get records x) refl };
     holders = subst (λ ids. AreHolders ids records) (sym ready.by_one) (holders_by_one world.mapping records);
@@ -159,7 +160,7 @@ page_routed routes version x h document page is graph meant fit = record {
 }
 
 -- where no memory was refused
-pub placed_if : (routes : List Route) (world : WorldState) → IsReadyFor world → (limit : ℕ) → limit ≡ world.limit → (entries : Entries) (ids : List EntityId) → ids ≡ map.keys world.replay.played.records → {E : Type 0} (r : Result (Unit {0}) E)
+pub placed_if : (routes : List Route) (world : WorldState) → IsReadyFor world → (limit : ℕ) → world.limit ≡ whole limit → (entries : Entries) (ids : List EntityId) → ids ≡ map.keys world.replay.played.records → {E : Type 0} (r : Result (Unit {0}) E)
     → OnOk r (HaveEntries routes world ids entries) → OnOk r (AreEntriesOf routes limit world entries)
 placed_if routes world ready limit same entries ids all (Err e) have = tt
 placed_if routes world ready limit same entries ids all (Ok done) have = all_placed routes world ready limit same entries (subst (λ xs. HaveEntries routes world xs entries) all have)

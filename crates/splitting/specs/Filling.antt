@@ -7,13 +7,12 @@ use Rattle.replay_model.specs.{Records.record_of, Versions.all_by, Versions.mean
 use Rattle.graph_routes.specs.declared.routes.Route.{Route}
 use Rattle.subgraph.specs.{Entries.Entries, Entries.Entry, Laws.entry_held}
 use Rattle.fetched_pages.specs.Meaning.{meaning}
-use Rattle.holders.specs.Roomed.{HasRoom}
-use Rattle.world.specs.{Routed.routing_by, WorldState.WorldState}
+use Rattle.world.specs.{Limit.HasRoomBy, Routed.routing_by, WorldState.WorldState}
 
 -- a world between two deliveries: every page is mapped by the version in force, and all that is held has room
 pub record IsReadyFor (world : WorldState) : Type 0 where
   pub by_one : world.by_two ≡ all_by world.mapping world.replay.played.records
-  pub room : HasRoom (meaning_by meaning world.by_two) world.limit world.replay.played.records
+  pub room : HasRoomBy world.limit (meaning_by meaning world.by_two) world.replay.played.records
 
 module _ (routes : List Route) (world : WorldState) where
   -- the entry of what an entity of the world holds

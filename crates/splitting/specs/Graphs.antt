@@ -12,7 +12,7 @@ use Rattle.subgraph.specs.Split.{entry, graph_of}
 use Rattle.world.specs.declared.applied.Outcome.{Outcome}
 use Rattle.world.specs.declared.applied.Outcome.TheVariants.{Same, Stored, Dropped, Sided}
 use Rattle.holders.specs.Holding.{AreHolders}
-use Rattle.world.specs.{declared.applied.RoutedPage.RoutedPage, Routed.routing_by, WorldState.WorldState}
+use Rattle.world.specs.{declared.applied.RoutedPage.RoutedPage, Limit.whole, Routed.routing_by, WorldState.WorldState}
 use Rattle.fetched_pages.specs.Meaning.{meaning}
 use Rattle.text_output.specs.{declared.write.Unwritten.Unwritten, declared.write.Unwritten.TheVariants.OutOfMemory, Printing.Output}
 
@@ -24,11 +24,11 @@ pub record GraphsState : Type 0 where
   pub entries : Option Entries
 
 -- each entity has its entry by what it holds: the graph that its page is routed to, and the triples that the page means by the version
--- that it is mapped by; and each graph may have as many terms as the world
+-- that it is mapped by; and each graph may have as many terms as the world, which isn't lean
 pub record AreEntriesOf (routes : List Route) (limit : ℕ) (world : WorldState) (entries : Entries) : Type 0 where
   pub split : IsSplitOf (routing_by routes) (meaning_by meaning world.by_two) entries world.replay.played.records
   pub holders : AreHolders world.by_two world.replay.played.records
-  pub limit_is : limit ≡ world.limit
+  pub limit_is : world.limit ≡ whole limit
 
 -- graphs follow a world, or are lost
 abbrev pub Follow : GraphsState → WorldState → Type 0
@@ -90,6 +90,14 @@ AreThere graphs = IsSome graphs.entries
 -- if there are graphs, they aren't lost
 abbrev pub NoneIsLost : Option GraphsState → Type 0
 NoneIsLost graphs = IfSome graphs (λ (g : GraphsState). AreThere g)
+
+-- the terms of triples are fit and short, unless the graphs are lost
+abbrev pub AreFitFor : GraphsState → List Triple → Type 0
+AreFitFor graphs triples = IfSome graphs.entries (λ _. AllByRecursion HasFitAndShortTerms triples)
+
+-- the same of graphs that there may be
+abbrev pub MayBeFitFor : Option GraphsState → List Triple → Type 0
+MayBeFitFor graphs triples = IfSome graphs (λ (g : GraphsState). AreFitFor g triples)
 
 -- ---- room
 

@@ -9,7 +9,7 @@ ghost use Rattle.entity_json.specs.Document.{unfit_of};
 ghost use Rattle.entity_model.specs.Document.{IsDocumentOf, IsSmall};
 ghost use Rattle.graph_routes.specs.Routing.{route_of};
 ghost use Rattle.fetched_pages.specs.Meaning.{document_triples};
-ghost use Rattle.world.specs.Routed.{IsRouted};
+ghost use Rattle.world.specs.{Limit.whole, Routed.IsRouted};
 ghost use Rattle.splitting.specs.Filling.{AreAmong, HaveEntries, IsReadyFor, entry_in, with_entry};
 ghost use Rattle.splitting.specs.Graphs.{AreEntriesOf};
 
@@ -28,8 +28,8 @@ use world::{RoutedPage, World};
 
 impl Graphs {
     /// Graphs that follow a world from what it holds on: each page that is held is read and mapped once, and its triples are in the graph
-    /// that it is routed to. Each graph has room for so many distinct terms: as many as the world, so none lacks it. The hashes of ids and
-    /// of terms are keyed by `keys`.
+    /// that it is routed to. Each graph has room for so many distinct terms: as many as the world, which isn't lean, so none lacks it. The
+    /// hashes of ids and of terms are keyed by `keys`.
     ///
     /// # Errors
     /// Memory was refused.
@@ -41,7 +41,7 @@ impl Graphs {
         world: &World,
     ) -> Result<Graphs, OutOfMemory>
         requires ready { IsReadyFor world.now }
-        requires limit { limit ≡ world.now.limit }
+        requires limit { world.now.limit ≡ whole limit }
         ensures routes { IfOk result (λ graphs. graphs.routes ≡ routes) }
         ensures limit { IfOk result (λ graphs. graphs.limit ≡ limit) }
         ensures there { IfOk result (λ graphs. IsSome graphs.entries) }
@@ -62,7 +62,7 @@ fn fill(alloc: Global, routes: &Routes, world: &World, split: &mut Split) -> Res
     requires ready { IsReadyFor world.now }
     requires fresh { split.old.entries ≡ map.empty }
     requires graphs { split.old.graphs ≡ length routes.now + 1 }
-    requires limit { split.old.limit ≡ world.now.limit }
+    requires limit { world.now.limit ≡ whole split.old.limit }
     ensures entries { OnOk result (AreEntriesOf routes.now split.new.limit world.now split.new.entries) }
     ensures graphs { split.new.graphs ≡ split.old.graphs }
     ensures limit { split.new.limit ≡ split.old.limit }
@@ -82,7 +82,7 @@ fn place_each(
     requires ready { IsReadyFor world.now }
     requires fresh { split.old.entries ≡ map.empty }
     requires graphs { split.old.graphs ≡ length routes.now + 1 }
-    requires limit { split.old.limit ≡ world.now.limit }
+    requires limit { world.now.limit ≡ whole split.old.limit }
     ensures entries { OnOk result (HaveEntries routes.now world.now ids.now split.new.entries) }
     ensures graphs { split.new.graphs ≡ split.old.graphs }
     ensures limit { split.new.limit ≡ split.old.limit }
@@ -104,7 +104,7 @@ fn place(
     requires ready { IsReadyFor world.now }
     requires among { AreAmong routes.now world.now split.old.entries }
     requires graphs { split.old.graphs ≡ length routes.now + 1 }
-    requires limit { split.old.limit ≡ world.now.limit }
+    requires limit { world.now.limit ≡ whole split.old.limit }
     ensures entries { OnOk result (split.new.entries ≡ with_entry id (entry_in routes.now world.now id) split.old.entries) }
     ensures graphs { split.new.graphs ≡ split.old.graphs }
     ensures limit { split.new.limit ≡ split.old.limit }

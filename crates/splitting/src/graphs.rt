@@ -12,7 +12,7 @@ ghost use Rattle.holdings.specs.Mapped.{AreTriplesOf};
 ghost use Rattle.world.specs.{Applying.Applies, Routed.GivesPage};
 ghost use Rattle.holders.specs.Holding.{AreHolders};
 ghost use Rattle.world.specs.WorldState.{WorldState, by_two_after, next_stale, remapped};
-ghost use Rattle.splitting.specs.Graphs.{AreEntriesAfter, AreEntriesAnew, AreThere, Follow, HasRoomAnewIn, HasRoomIn, HaveRoom, HaveRoomAnew, IsSound, IsSoundFor, takes_memory};
+ghost use Rattle.splitting.specs.Graphs.{AreEntriesAfter, AreEntriesAnew, AreFitFor, AreThere, Follow, HasRoomAnewIn, HasRoomIn, HaveRoom, HaveRoomAnew, IsSound, IsSoundFor, takes_memory};
 
 use entity_model::EntityId;
 use graph_routes::Routes;
@@ -110,8 +110,8 @@ impl Graphs {
         }
     }
 
-    /// Follows the remapping of an entity's page: these are its triples now, in the graph that it is in, which has room for them. Graphs
-    /// that followed the world before follow the world after it, or are lost.
+    /// Follows the remapping of an entity's page: these are its triples now, in the graph that it is in, which has room for them. Nothing is
+    /// asked of them if the graphs are lost. Graphs that followed the world before follow the world after it, or are lost.
     ///
     /// # Errors
     /// Memory was refused, now or at an earlier step: the graphs are lost.
@@ -120,13 +120,14 @@ impl Graphs {
         id: EntityId,
         triples: &TripleTexts,
     ) -> Result<(), OutOfMemory>
-        requires fit { AllByRecursion HasFitAndShortTerms triples.now }
+        requires fit { AreFitFor self.old triples.now }
         requires room { HaveRoomAnew self.old id triples.now }
         ensures routes { self.new.routes ≡ self.old.routes }
         ensures limit { self.new.limit ≡ self.old.limit }
         ensures there { OnOk result (AreThere self.new) }
         ensures follow { (before : WorldState) → next_stale before ≡ Some id →
-            AreTriplesOf before.mapping id (record_of before.replay.played.records id).held triples.now → AreHolders (remapped before).by_two before.replay.played.records →
+            (before.limit.lean ≡ false → AreTriplesOf before.mapping id (record_of before.replay.played.records id).held triples.now) →
+            AreHolders (remapped before).by_two before.replay.played.records →
             Follow self.old before → Follow self.new (remapped before) }
     {
         let Some(split) = &mut self.split else {

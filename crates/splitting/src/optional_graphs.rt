@@ -1,15 +1,13 @@
 // Graphs, if there are any: only a split has them.
 
 ghost use Rattle.std.specs.Prelude.{◌≡◌, ℕ, List, Option, Some, false, IfSome, IsOk, OnOk, option_copied};
-ghost use Rattle.std.specs.List.{AllByRecursion};
-ghost use Rattle.rdf_term.specs.Fit.{HasFitAndShortTerms};
 ghost use Rattle.replay_model.specs.Records.{record_of};
 ghost use Rattle.revisions.specs.Revisions.{Contents};
 ghost use Rattle.holdings.specs.Mapped.{AreTriplesOf};
 ghost use Rattle.world.specs.{Applying.Applies, Routed.GivesPage};
 ghost use Rattle.holders.specs.Holding.{AreHolders};
 ghost use Rattle.world.specs.WorldState.{WorldState, by_two_after, next_stale, remapped};
-ghost use Rattle.splitting.specs.Graphs.{IsSound, MayFollow, MayHaveRoom, MayHaveRoomAnew, NoneIsLost, routes_of, takes_memory};
+ghost use Rattle.splitting.specs.Graphs.{IsSound, MayBeFitFor, MayFollow, MayHaveRoom, MayHaveRoomAnew, NoneIsLost, routes_of, takes_memory};
 
 use crate::graphs::Graphs;
 use entity_model::EntityId;
@@ -63,7 +61,8 @@ pub fn follow_application(
     }
 }
 
-/// Graphs, if there are some, follow the remapping of an entity's page, which has these triples now, for which they have room.
+/// Graphs, if there are some, follow the remapping of an entity's page, which has these triples now, for which they have room. Nothing is
+/// asked of these triples where there are no graphs, so the world may be lean then.
 ///
 /// # Errors
 /// Memory was refused, now or at an earlier step: the graphs are lost.
@@ -72,12 +71,13 @@ pub fn follow_remapping(
     id: EntityId,
     triples: &TripleTexts,
 ) -> Result<(), OutOfMemory>
-    requires fit { AllByRecursion HasFitAndShortTerms triples.now }
+    requires fit { MayBeFitFor graphs.old triples.now }
     requires room { MayHaveRoomAnew graphs.old id triples.now }
     ensures routes { routes_of graphs.new ≡ routes_of graphs.old }
     ensures there { OnOk result (NoneIsLost graphs.new) }
     ensures follow { (before : WorldState) → next_stale before ≡ Some id →
-        AreTriplesOf before.mapping id (record_of before.replay.played.records id).held triples.now → AreHolders (remapped before).by_two before.replay.played.records →
+        (before.limit.lean ≡ false → AreTriplesOf before.mapping id (record_of before.replay.played.records id).held triples.now) →
+        AreHolders (remapped before).by_two before.replay.played.records →
         MayFollow graphs.old before → MayFollow graphs.new (remapped before) }
 {
     match graphs {

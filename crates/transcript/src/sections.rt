@@ -1,6 +1,6 @@
 // The answer to a question, and the sections after the end.
 
-ghost use Rattle.std.specs.Prelude.{◌≡◌, cond, []};
+ghost use Rattle.std.specs.Prelude.{◌≡◌, cond, false, []};
 ghost use Rattle.rdf_term.specs.{Order.triple_cmp, Pattern.rows};
 ghost use Rattle.replay_model.specs.Transcript.{ask_section, export_section, side_section, state_section};
 ghost use Rattle.replay_model.specs.{Union.union, Versions.meaning_by};
@@ -30,7 +30,7 @@ pub struct Sections {
 }
 
 /// Prints the answer to the question with this number: how many triples of the world agree with the pattern, and the line of
-/// each.
+/// each. The world isn't lean.
 ///
 /// # Errors
 /// The output could not be written, or memory was refused: then a prefix of the answer was written, and nothing else.
@@ -41,6 +41,7 @@ pub fn print_answer<K: Sink>(
     world: &World,
     out: &mut K,
 ) -> Result<(), Unwritten>
+    requires { world.now.limit.lean ≡ false }
     ensures { Prints (ask_section number (rows (union triple_cmp (meaning_by meaning world.now.by_two) world.now.replay.played.records) pattern.now))
         (output K.Sink out.old) (output K.Sink out.new) result }
 {
@@ -49,7 +50,7 @@ pub fn print_answer<K: Sink>(
     print_section(alloc, head.as_str(), &rows, out)
 }
 
-/// Prints the sections that are asked for: the export, the states and the side output.
+/// Prints the sections that are asked for: the export, the states and the side output. The world isn't lean.
 ///
 /// # Errors
 /// The output could not be written, or memory was refused: then a prefix of the sections was written, and nothing else.
@@ -59,6 +60,7 @@ pub fn print_closing<K: Sink>(
     world: &World,
     out: &mut K,
 ) -> Result<(), Unwritten>
+    requires { world.now.limit.lean ≡ false }
     ensures { Prints (closing_of (union triple_cmp (meaning_by meaning world.now.by_two) world.now.replay.played.records) (chosen sections) world.now.replay.played)
         (output K.Sink out.old) (output K.Sink out.new) result }
 {
@@ -74,6 +76,7 @@ fn print_export<K: Sink>(
     world: &World,
     out: &mut K,
 ) -> Result<(), Unwritten>
+    requires { world.now.limit.lean ≡ false }
     ensures { Prints (cond wanted (export_section (union triple_cmp (meaning_by meaning world.now.by_two) world.now.replay.played.records)) [])
         (output K.Sink out.old) (output K.Sink out.new) result }
 {

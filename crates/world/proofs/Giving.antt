@@ -1,19 +1,19 @@
 -- An application gives back the page that it stored.
-use Rattle.std.proofs.Common.{◌≡◌, ℕ, Bool, true, false, cond, List, Option, None, Some, IfSome, Result, Ok, Err, is_some, true≢false, refl, sym, ◌∙◌, ap, subst}
+use Rattle.std.proofs.Common.{◌≡◌, ℕ, Bool, true, false, cond, List, Option, None, Some, IfOk, IfSome, Result, Ok, Err, is_some, true≢false, refl, sym, ◌∙◌, ap, subst}
 use Rattle.entity_model.specs.{declared.event.Event.Event, declared.id.EntityId.EntityId, declared.mapping.MappingVersion.MappingVersion}
 use Rattle.entity_state.specs.{declared.record.Held.Held, declared.record.Record.Record, Record.held_revision, Record.wants}
 use Rattle.entity_state.specs.State.{is_deleted, state_after}
 use Rattle.replay_model.specs.Play.{Played, apply, held_after_fetch, record_after, records_after}
-use Rattle.replay_model.specs.{Records.Bytes, Records.Records, Records.record_of, Union.triples_held}
+use Rattle.replay_model.specs.{Records.Bytes, Records.Records, Records.record_of}
 use Rattle.entity_state.specs.declared.entry.Cause.{Cause}
 use Rattle.graph_routes.specs.declared.routes.Route.{Route}
-use Rattle.world.specs.{declared.applied.Outcome.Outcome, Roomed.triples_of_reply, Routed.GivesPage, Routed.routed_by, Routed.with_route}
+use Rattle.world.specs.{declared.applied.Outcome.Outcome, Routed.GivesPage, Routed.routed_by, Routed.with_route}
 use Rattle.world.specs.declared.applied.Outcome.TheVariants.{Same, Stored, Dropped, Sided}
 use Rattle.world.specs.{declared.applied.RoutedPage.RoutedPage, Applying.outcome_after, Applying.outcome_of_reply}
 use Rattle.holders.proofs.Records.{record_here}
 use Rattle.fetched_pages.specs.declared.fetching.FetchedPage.{FetchedPage}
 use Rattle.fetched_pages.specs.declared.fetching.FetchedPage.TheVariants.{Whole, Changed}
-use Rattle.fetched_pages.specs.{Fetched.AreMeant, Fetched.reply_or_any, Meaning.meaning, Routing.AreRouted}
+use Rattle.fetched_pages.specs.{Fetched.AreMeant, Fetched.reply_or_any, Routing.AreRouted}
 
 -- the record of the event's entity after an application
 pub recorded : (records : Records) (e : Event) (reply : Result Bytes Cause) → record_of (records_after (λ _ _. reply) records e) e.entity ≡ record_after (λ _ _. reply) e (record_of records e.entity)
@@ -59,18 +59,18 @@ page_given (Some known) by_two v before after e reply outcome page meant routed 
     (subst (λ (g : Option RoutedPage). GivesPage known v e.entity outcome (record_of (records_after (λ _ _. reply_or_any reply) before.records e) e.entity).held g) (sym given)
     (given_of known v before.records by_two e outcome reply meant routed is))
 
--- what an application stores is the page that came
-pub stored_page : (v : MappingVersion) (records : Records) (e : Event) (reply : Result Bytes Cause) (outcome : Outcome) → outcome ≡ outcome_after (record_of records e.entity) e reply → outcome ≡ Stored
-    → triples_held (meaning v) e.entity (record_of (records_after (λ _ _. reply) records e) e.entity).held
-    ≡ triples_of_reply v e.entity (state_after (record_of records e.entity).state e).rev reply
-stored_page v records e reply outcome is stored =
-    ap (λ (r : Record Bytes). triples_held (meaning v) e.entity r.held) (record_here records e.entity (record_after (λ _ _. reply) e (record_of records e.entity)))
-    ∙ by (wants (state_after (record_of records e.entity).state e) (held_revision (record_of records e.entity).held)) (is_deleted (state_after (record_of records e.entity).state e).mode) reply (sym is ∙ stored)
+-- what holds of the page that came holds of what is held after an application that stored it
+pub of_stored : (P : Option (Held Bytes) → Type 0) (records : Records) (e : Event) (reply : Result Bytes Cause) (outcome : Outcome) → outcome ≡ outcome_after (record_of records e.entity) e reply → outcome ≡ Stored
+    → IfOk reply (λ bytes. P (Some (record { revision = (state_after (record_of records e.entity).state e).rev; content = bytes })))
+    → P (record_of (records_after (λ _ _. reply) records e) e.entity).held
+of_stored P records e reply outcome is stored page =
+    subst (λ (r : Record Bytes). P r.held) (sym (recorded records e reply))
+    (by (wants (state_after (record_of records e.entity).state e) (held_revision (record_of records e.entity).held)) (is_deleted (state_after (record_of records e.entity).state e).mode) reply (sym is ∙ stored) page)
   where
     by : (b d : Bool) (reply : Result Bytes Cause) → cond b (outcome_of_reply reply) (cond d Dropped Same) ≡ Stored
-        → triples_held (meaning v) e.entity (cond b (held_after_fetch (state_after (record_of records e.entity).state e).rev reply (record_of records e.entity).held) (cond d None (record_of records e.entity).held))
-        ≡ triples_of_reply v e.entity (state_after (record_of records e.entity).state e).rev reply
-    by true d (Ok bytes) h = refl
-    by true d (Err cause) h = cc
-    by false true reply h = cc
-    by false false reply h = cc
+        → IfOk reply (λ bytes. P (Some (record { revision = (state_after (record_of records e.entity).state e).rev; content = bytes })))
+        → P (cond b (held_after_fetch (state_after (record_of records e.entity).state e).rev reply (record_of records e.entity).held) (cond d None (record_of records e.entity).held))
+    by true d (Ok bytes) h page = page
+    by true d (Err cause) h page = cc
+    by false true reply h page = cc
+    by false false reply h page = cc

@@ -10,7 +10,7 @@ use Rattle.entity_state.specs.declared.entry.Entry.{Entry}
 use Rattle.entity_state.specs.contracts.entry.Entry as entry
 use Rattle.replay_model.specs.{Records.Records, Play.Played, ReplayState.ReplayState}
 use Rattle.reorder_buffer.specs.Buffered.{Buffered}
-use Rattle.world.specs.WorldState.{WorldState}
+use Rattle.world.specs.{Limit.Limit, WorldState.WorldState}
 use Rattle.entity_model.specs.contracts.event.Event as event
 
 -- records and side output
@@ -30,12 +30,16 @@ buffered_code =
 abbrev pub state_code : Coded ReplayState
 state_code = code_by (Buffered × Played) (coded× buffered_code played_code) (λ s. (s.buffer, s.played)) (λ c. record { buffer = c.0; played = c.1 }) (λ _. refl)
 
--- how many terms there may be, and the versions of the mapping
-abbrev pub terms_code : Coded (ℕ × (MappingVersion × List EntityId))
-terms_code = coded× coded_ℕ (coded× (mapping_version.the_row).coded (coded_list (entity_id.the_row).coded))
+-- how many terms there may be, and of which triples
+abbrev pub limit_code : Coded Limit
+limit_code = code_by (ℕ × Bool) (coded× coded_ℕ coded_bool) (λ l. (l.terms, l.lean)) (λ c. record { terms = c.0; lean = c.1 }) (λ _. refl)
+
+-- that, and the versions of the mapping
+abbrev pub terms_code : Coded (Limit × (MappingVersion × List EntityId))
+terms_code = coded× limit_code (coded× (mapping_version.the_row).coded (coded_list (entity_id.the_row).coded))
 
 -- all of it
 abbrev pub world_code : Coded WorldState
 world_code =
-    code_by (ReplayState × (ℕ × (MappingVersion × List EntityId))) (coded× state_code terms_code)
+    code_by (ReplayState × (Limit × (MappingVersion × List EntityId))) (coded× state_code terms_code)
     (λ w. (w.replay, (w.limit, (w.mapping, w.by_two)))) (λ c. record { replay = c.0; limit = c.1.0; mapping = c.1.1.0; by_two = c.1.1.1 }) (λ _. refl)

@@ -10,7 +10,11 @@ use Rattle.entity_json.specs.Document.{unfit_of}
 use Rattle.entity_state.specs.declared.entry.Entry.{Entry}
 use Rattle.replay_model.specs.{Entries.is_of_revision, Entries.is_open_by, Entries.is_revision_of, Records.Bytes, Records.is_settled}
 use Rattle.replay_model.specs.{Replies.HoldsDocument, Versions.with_version}
+use Rattle.lean_holdings.specs.declared.restoring.RestoreFault.{RestoreFault as LeanFault}
+use Rattle.lean_holdings.specs.declared.restoring.RestoreFault.TheVariants.{Full as LeanFull, OutOfMemory as LeanOutOfMemory, Unsound as LeanUnsound}
 use Rattle.world.specs.WorldState.{WorldState}
+use Rattle.world.specs.declared.restoring.RestoreFault.{RestoreFault}
+use Rattle.world.specs.declared.restoring.RestoreFault.TheVariants.{Full, OutOfMemory, Unsound}
 
 -- whether nothing is held of a page that isn't kept, and the side output tells of the revision that is wanted, unless it is held
 abbrev pub is_accounted_for : List Entry → EntityId → Record Bytes → Bool
@@ -28,6 +32,12 @@ pub record MayStand (side : List Entry) (x : EntityId) (r : Record Bytes) : Type
 abbrev pub by_two_with : MappingVersion → EntityId → Option (Held Bytes) → List EntityId → List EntityId
 by_two_with version x None by_two = with_version One x by_two
 by_two_with version x (Some held) by_two = with_version version x by_two
+
+-- what a fault of lean holdings is to a world
+abbrev pub restore_fault_of : LeanFault → RestoreFault
+restore_fault_of LeanUnsound = Unsound
+restore_fault_of LeanFull = Full
+restore_fault_of LeanOutOfMemory = OutOfMemory
 
 -- the world with the record of x, where what it holds is mapped by the version in force
 abbrev pub restored : WorldState → EntityId → Record Bytes → WorldState

@@ -1,26 +1,27 @@
 -- What contracts see of a world, and what becomes of the versions by which its documents are mapped.
-use Rattle.std.specs.Prelude.{ℕ, List, [], Option, None, Some}
+use Rattle.std.specs.Prelude.{List, [], Option, None, Some}
 use Rattle.rdf_term.specs.{declared.triple.Triple.Triple, Order.triple_cmp}
 use Rattle.entity_model.specs.{declared.id.EntityId.EntityId, declared.mapping.MappingVersion.MappingVersion}
 use Rattle.entity_model.specs.declared.mapping.MappingVersion.TheVariants.{One, Two}
 use Rattle.entity_state.specs.declared.entry.Entry.{Entry}
-use Rattle.replay_model.specs.{Records.Records, Records.record_of, Play.Played, ReplayState.ReplayState}
-use Rattle.replay_model.specs.Union.{Meaning, triples_held, union}
+use Rattle.replay_model.specs.{Play.Played, ReplayState.ReplayState}
+use Rattle.replay_model.specs.Union.{union}
 use Rattle.replay_model.specs.Versions.{meaning_by, with_version}
 use Rattle.fetched_pages.specs.Meaning.{meaning}
-use Rattle.holders.specs.Holding.{HoldingsState, first_of, stale_by, version_in, with_version_of}
+use Rattle.holders.specs.Holding.{first_of, stale_by, version_in, with_version_of}
+use Rattle.world.specs.{Held.HeldState, Limit.Limit}
 use Rattle.world.specs.declared.applied.Outcome.{Outcome}
 use Rattle.world.specs.declared.applied.Outcome.TheVariants.{Same, Stored, Dropped, Sided}
 
 -- with the side output
-abbrev pub played_of : HoldingsState → List Entry → Played
+abbrev pub played_of : HeldState → List Entry → Played
 played_of held side = record { records = held.records; side = side }
 
--- the state of a replay; how many terms there may be; the version of the mapping in force; and the entities whose documents are mapped by
--- version Two
+-- the state of a replay; how many terms there may be, and of which triples; the version of the mapping in force; and the entities whose
+-- documents are mapped by version Two
 pub record WorldState : Type 0 where
   pub replay : ReplayState
-  pub limit : ℕ
+  pub limit : Limit
   pub mapping : MappingVersion
   pub by_two : List EntityId
 
@@ -50,12 +51,3 @@ next_stale w = first_of (stale w)
 -- the least of them, if there is one, holds by the version in force now
 abbrev pub remapped : WorldState → WorldState
 remapped w = record w { by_two = with_version_of w.mapping (next_stale w) w.by_two }
-
--- what the document of an entity means, if there is one
-abbrev pub triples_of : Meaning Triple → Records → Option EntityId → List Triple
-triples_of meaning records None = []
-triples_of meaning records (Some x) = triples_held meaning x (record_of records x).held
-
--- what the document of the least stale entity means by the version in force
-abbrev pub triples_anew : WorldState → List Triple
-triples_anew w = triples_of (meaning w.mapping) w.replay.played.records (next_stale w)

@@ -3,10 +3,11 @@
 ghost use Rattle.std.specs.Prelude.{◌≡◌, ◌≢◌, ◌↔◌, ◌⊎◌, ◌<◌, ◌≤◌, true, None, Some, is_some, IfSome, option_copied, if◌then◌else◌, IfOk, IfErr, OnErr, IsErrOf};
 ghost use Rattle.revisions.specs.Revisions.{counted};
 ghost use Rattle.reorder_buffer.specs.Buffered.{first_due};
-ghost use Rattle.replay_model.specs.{Records.record_of, Union.triples_held, Versions.meaning_by};
+ghost use Rattle.replay_model.specs.{Records.record_of, Versions.meaning_by};
 ghost use Rattle.fetched_pages.specs.{Reply.IsReply, Reply.ShowsReply, Fetched.AreMeant, Fetched.reply_of, Fetched.reply_or_any, Meaning.meaning};
 ghost use Rattle.fetched_pages.specs.Routing.{AreRouted};
-ghost use Rattle.holders.specs.{Changing.Tells, Holding.AreHolders, Roomed.HasRoom, Roomed.room_with};
+ghost use Rattle.holders.specs.Holding.{AreHolders};
+ghost use Rattle.world.specs.{Held.TellsChange, Limit.HasRoomBy, Roomed.needs_now};
 ghost use Rattle.world.specs.{Applying.Applies, Applying.IsShown, Applying.calls_after, Refused.MayBeRefused};
 ghost use Rattle.world.specs.{Roomed.IsOverfull, Routed.GivesPage, WorldState.by_two_after, WorldState.stored_of};
 ghost use Rattle.world.specs.declared.applied.Outcome.TheVariants.{Stored};
@@ -27,9 +28,9 @@ use triple_store::Telling;
 impl World {
     /// Applies the least due event: its entity's state is set, and if the new state wants a revision, it is fetched once, and mapped by the
     /// version in force. After a fault nothing has changed, except that a fetch may have been made. If contracts see the contents of the
-    /// source, the fault is `Full` exactly if the triples of the fetched page and of all held pages have together more distinct terms than
-    /// the limit, unless memory is refused. Otherwise `Full` says only that some document of the entity has no room. What is held is within
-    /// the limit, before and after. If nothing is fetched for an entity that has a record, memory isn't refused.
+    /// source, the fault is `Full` exactly if the triples of the fetched page and of all held pages (in a lean world: those that two pages
+    /// may share) have together more distinct terms than the limit, unless memory is refused. Otherwise `Full` says only that some document
+    /// of the entity has no room. What is stored is within the limit, before and after. If nothing is fetched for an entity that has a record, memory isn't refused.
     pub fn apply_next<R: Revisions>(
         &mut self,
         revisions: &mut R,
@@ -40,9 +41,9 @@ impl World {
         ensures mapping { self.new.mapping ≡ self.old.mapping }
         ensures by_two { IfOk result (λ applied.
             self.new.by_two ≡ by_two_after applied.outcome self.old.mapping applied.event.entity self.old.by_two) }
-        ensures within { IfOk result (λ applied. applied.outcome ≡ Stored → room_with (meaning_by meaning self.old.by_two) self.old.replay.played.records
-            (triples_held (meaning self.old.mapping) applied.event.entity (record_of self.new.replay.played.records applied.event.entity).held) ≤ self.old.limit) }
-        ensures held { HasRoom (meaning_by meaning self.new.by_two) self.new.limit self.new.replay.played.records }
+        ensures within { IfOk result (λ applied. applied.outcome ≡ Stored → needs_now self.old applied.event.entity
+            (record_of self.new.replay.played.records applied.event.entity).held ≤ self.old.limit.terms) }
+        ensures held { HasRoomBy self.new.limit (meaning_by meaning self.new.by_two) self.new.replay.played.records }
         ensures holders { AreHolders self.new.by_two self.new.replay.played.records }
         ensures full { IsErrOf result Full → IsOverfull (R.contents revisions.old) folder.now self.old }
         ensures refused { IsErrOf result WorldOutOfMemory → MayBeRefused NoTelling self.old }
@@ -80,12 +81,12 @@ impl World {
         ensures mapping { self.new.mapping ≡ self.old.mapping }
         ensures by_two { IfOk result (λ done.
             self.new.by_two ≡ by_two_after done.applied.outcome self.old.mapping done.applied.event.entity self.old.by_two) }
-        ensures change { IfOk result (λ done. Tells telling (stored_of self.old) (stored_of self.new) done.change) }
+        ensures change { IfOk result (λ done. TellsChange telling (stored_of self.old) (stored_of self.new) done.change) }
         ensures routed { IfOk result (λ done. IfSome (option_copied routes.entry) (λ known. GivesPage known self.old.mapping done.applied.event.entity done.applied.outcome
             (record_of self.new.replay.played.records done.applied.event.entity).held done.routed)) }
-        ensures within { IfOk result (λ done. done.applied.outcome ≡ Stored → room_with (meaning_by meaning self.old.by_two) self.old.replay.played.records
-            (triples_held (meaning self.old.mapping) done.applied.event.entity (record_of self.new.replay.played.records done.applied.event.entity).held) ≤ self.old.limit) }
-        ensures held { HasRoom (meaning_by meaning self.new.by_two) self.new.limit self.new.replay.played.records }
+        ensures within { IfOk result (λ done. done.applied.outcome ≡ Stored → needs_now self.old done.applied.event.entity
+            (record_of self.new.replay.played.records done.applied.event.entity).held ≤ self.old.limit.terms) }
+        ensures held { HasRoomBy self.new.limit (meaning_by meaning self.new.by_two) self.new.replay.played.records }
         ensures holders { AreHolders self.new.by_two self.new.replay.played.records }
         ensures full { IsErrOf result Full → IsOverfull (R.contents revisions.old) folder.now self.old }
         ensures refused { IsErrOf result WorldOutOfMemory → MayBeRefused telling self.old }

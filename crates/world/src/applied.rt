@@ -5,6 +5,7 @@ ghost use Rattle.world.specs.{Applying.fault_of_store, declared.applied.WorldFau
 
 use entity_model::{EntityId, Event, MappingVersion};
 use entity_state::Cause;
+use parts_exchange::PartsChange;
 use rdf_term::OutOfMemory;
 use thiserror::Error;
 use triple_store::{StoreFault, Telling, Told};
@@ -30,6 +31,15 @@ pub struct Handling {
     pub telling: Telling,
 }
 
+/// What is told of how a step changed the triples of all that is held.
+#[derive(Drop)]
+pub enum StepChange {
+    /// What was asked for.
+    Told(Told),
+    /// The change, in a lean world: the lines of triples that stand in one page alone, and those of the stored ones.
+    Parts(PartsChange),
+}
+
 /// An event that was applied.
 #[derive(Clone, Copy)]
 pub struct AppliedEvent {
@@ -50,7 +60,7 @@ pub struct RoutedPage {
 #[derive(Drop)]
 pub struct HeldChange {
     pub outcome: Outcome,
-    pub change: Told,
+    pub change: StepChange,
     pub routed: Option<RoutedPage>,
 }
 
@@ -59,16 +69,16 @@ pub struct HeldChange {
 #[derive(Drop)]
 pub struct AppliedStep {
     pub applied: AppliedEvent,
-    pub change: Told,
+    pub change: StepChange,
     pub routed: Option<RoutedPage>,
 }
 
 /// An entity whose held page was remapped; what is told of its change of the stored triples; and the triples of the page then, by their
-/// texts, of which one may stand there more than once.
+/// texts, of which one may stand there more than once, unless the world is lean.
 #[derive(Drop)]
 pub struct RemappedStep {
     pub entity: EntityId,
-    pub change: Told,
+    pub change: StepChange,
     pub triples: TripleTexts,
 }
 

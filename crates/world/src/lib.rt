@@ -2,6 +2,7 @@
 //!
 //! - `world`: the state of a replay, which contracts see as the definitions of replay_model do; `views`: what it tells of it.
 //! - `applications`: the least due event is applied; `applying`: the side output and holdings that this sets; `applied`: what it led to.
+//! - `held`: the holdings of either kind: with all triples, or with those that two pages may share.
 //! - `versions`: the pages of each version, and how those of the other one are remapped.
 //! - `rows`: the triples, with or without a copy of their texts.
 //! - `restoring`: how a saved world is put back.
@@ -11,6 +12,7 @@
 mod applications;
 mod applied;
 mod applying;
+mod held;
 mod laws;
 mod restoring;
 mod rows;
@@ -18,7 +20,10 @@ mod versions;
 mod views;
 mod world;
 
-pub use applied::{AppliedEvent, AppliedStep, Outcome, RemappedStep, RoutedPage, WorldFault};
+pub use applied::{
+    AppliedEvent, AppliedStep, Outcome, RemappedStep, RoutedPage, StepChange, WorldFault,
+};
+pub use held::{LeanPages, WorldHoldings};
 pub use laws::{changes_have_lines, versions_follow_the_play};
 pub use restoring::RestoreFault;
 pub use world::{World, discard};

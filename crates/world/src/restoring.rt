@@ -9,16 +9,19 @@ ghost use Rattle.reorder_buffer.specs.Buffered.{IsAdded, after_taking};
 ghost use Rattle.replay_model.specs.{Entries.is_of_revision, Replies.HoldsDocument, Union.triples_held};
 ghost use Rattle.replay_model.specs.Versions.{all_by, meaning_by, with_version};
 ghost use Rattle.fetched_pages.specs.Meaning.{meaning};
-ghost use Rattle.world.specs.Restoring.{MayStand, by_two_with, is_accounted_for, restored};
-ghost use Rattle.holders.specs.{Roomed.HasRoom, Roomed.room_with, Holding.AreHolders};
+ghost use Rattle.world.specs.Restoring.{MayStand, by_two_with, is_accounted_for, restore_fault_of, restored};
+ghost use Rattle.world.specs.{Held.held_in, Held.needs_in, Limit.HasRoomBy, Roomed.needs_now};
+ghost use Rattle.holders.specs.{Roomed.room_with, Holding.AreHolders};
 ghost use Rattle.world.specs.Refused.{HoldsOrIsFirst, MayRefuseRecord};
 ghost use Rattle.world.specs.declared.restoring.RestoreFault.TheVariants.{Full, OutOfMemory as RestoreOutOfMemory, Unsound};
 
+use crate::held::WorldHoldings;
 use crate::world::World;
 use entity_model::{EntityId, Event, MappingVersion};
 use entity_state::{Entry, Mode, Record, Side, Standing};
 use fetched_pages::{FetchedPage, Wanted, judge};
 use holdings::Holdings;
+use lean_holdings::RestoreFault as LeanRestoreFault;
 use rdf_term::{OutOfMemory, Text};
 use std::alloc::Global;
 use thiserror::Error;
@@ -37,6 +40,18 @@ pub enum RestoreFault {
     /// A request for memory was refused.
     #[error("out of memory")]
     OutOfMemory,
+}
+
+impl From<LeanRestoreFault> for RestoreFault {
+    ghost from_gives = { λ fault e. e ≡ restore_fault_of fault };
+
+    fn from(fault: LeanRestoreFault) -> RestoreFault {
+        match fault {
+            LeanRestoreFault::Unsound => RestoreFault::Unsound,
+            LeanRestoreFault::Full => RestoreFault::Full,
+            LeanRestoreFault::OutOfMemory => RestoreFault::OutOfMemory,
+        }
+    }
 }
 
 impl World {
@@ -66,32 +81,68 @@ impl World {
 
     /// Puts back the record of an entity; the page that it holds is mapped by the version in force, and nothing is fetched. If every page
     /// was mapped by this version before, every page is after. After a fault nothing has changed. The fault is `Unsound` for a record that
-    /// no replay leaves with this side output. Otherwise it is `Full` exactly if the triples of the page and of all held pages have
-    /// together more distinct terms than the limit, unless memory is refused. Only a page, or the first record of an entity, takes memory.
+    /// no replay leaves with this side output. Otherwise it is `Full` exactly if the triples of the page and of all held pages (in a lean
+    /// world: those that two pages may share) have together more distinct terms than the limit, unless memory is refused. Only a page, or the
+    /// first record of an entity, takes memory; in a lean world also a record that comes in the place of one with a page.
     pub fn restore(&mut self, id: EntityId, entity: Record<Text>) -> Result<(), RestoreFault>
         ensures ok { OnOk result (self.new ≡ restored self.old id entity) }
         ensures sound { OnOk result (MayStand self.old.replay.played.side id entity) }
         ensures unsound { IsErrOf result Unsound → ¬ (MayStand self.old.replay.played.side id entity) }
-        ensures full { IsErrOf result Full → self.old.limit
-            < room_with (meaning_by meaning self.old.by_two) self.old.replay.played.records (triples_held (meaning self.old.mapping) id entity.held) }
+        ensures full { IsErrOf result Full → self.old.limit.terms < needs_now self.old id entity.held }
         ensures sound_if_full { IsErrOf result Full → MayStand self.old.replay.played.side id entity }
-        ensures refused { IsErrOf result RestoreOutOfMemory → MayRefuseRecord self.old.replay.played id entity }
-        ensures within { OnOk result (room_with (meaning_by meaning self.old.by_two) self.old.replay.played.records
-            (triples_held (meaning self.old.mapping) id entity.held) ≤ self.old.limit) }
+        ensures refused { IsErrOf result RestoreOutOfMemory → MayRefuseRecord self.old.limit.lean self.old.replay.played id entity }
+        ensures within { OnOk result (needs_now self.old id entity.held ≤ self.old.limit.terms) }
         ensures by_one { self.old.by_two ≡ all_by self.old.mapping self.old.replay.played.records →
             self.new.by_two ≡ all_by self.new.mapping self.new.replay.played.records }
-        ensures held { HasRoom (meaning_by meaning self.new.by_two) self.new.limit self.new.replay.played.records }
+        ensures held { HasRoomBy self.new.limit (meaning_by meaning self.new.by_two) self.new.replay.played.records }
         ensures holders { AreHolders self.new.by_two self.new.replay.played.records }
         ensures err { OnErr result (self.new ≡ self.old) }
     {
         if !is_accounted_for(&self.side, id, &entity) {
             return Err(RestoreFault::Unsound);
         }
-        let restored = restore(&mut self.holdings, self.alloc, id, entity, self.mapping);
+        let restored = self.holdings.restore(self.alloc, id, entity, self.mapping);
         self.holdings.facts();
         match restored {
             Ok(()) => Ok(()),
             Err(fault) => Err(fault),
+        }
+    }
+}
+
+impl WorldHoldings {
+    // Puts back the record of an entity; the page that it holds is mapped by the version. After a fault nothing has changed. `Unsound` is
+    // said of a page that is no document of the entity.
+    fn restore(
+        &mut self,
+        alloc: Global,
+        id: EntityId,
+        entity: Record<Text>,
+        version: MappingVersion,
+    ) -> Result<(), RestoreFault>
+        ensures ok { OnOk result ((held_in self.new).records ≡ map.insert (held_in self.old).records id entity) }
+        ensures by_two { OnOk result ((held_in self.new).by_two ≡ by_two_with version id entity.held (held_in self.old).by_two) }
+        ensures document { OnOk result (HoldsDocument unfit_of id entity.held) }
+        ensures document_if_full { IsErrOf result Full → HoldsDocument unfit_of id entity.held }
+        ensures unsound { IsErrOf result Unsound → ¬ (HoldsDocument unfit_of id entity.held) }
+        ensures refused { IsErrOf result RestoreOutOfMemory → HoldsOrIsFirst (held_in self.old).limit.lean (held_in self.old).records id entity.held }
+        ensures limit { (held_in self.new).limit ≡ (held_in self.old).limit }
+        ensures full { IsErrOf result Full → (held_in self.old).limit.terms < needs_in (held_in self.old) version id entity.held }
+        ensures within { OnOk result (needs_in (held_in self.old) version id entity.held ≤ (held_in self.old).limit.terms) }
+        ensures err { OnErr result (held_in self.new ≡ held_in self.old) }
+    {
+        match self {
+            WorldHoldings::All(holdings) => restore(holdings, alloc, id, entity, version),
+            WorldHoldings::Lean(lean) => {
+                let restored = lean
+                    .holdings
+                    .restore(id, &entity, version, &mut lean.buffer);
+                drop(entity);
+                match restored {
+                    Ok(()) => Ok(()),
+                    Err(fault) => Err(RestoreFault::from(fault)),
+                }
+            }
         }
     }
 }
@@ -110,7 +161,7 @@ fn restore(
     ensures document { OnOk result (HoldsDocument unfit_of id entity.held) }
     ensures document_if_full { IsErrOf result Full → HoldsDocument unfit_of id entity.held }
     ensures unsound { IsErrOf result Unsound → ¬ (HoldsDocument unfit_of id entity.held) }
-    ensures refused { IsErrOf result RestoreOutOfMemory → HoldsOrIsFirst holdings.old.records id entity.held }
+    ensures refused { IsErrOf result RestoreOutOfMemory → HoldsOrIsFirst false holdings.old.records id entity.held }
     ensures limit { holdings.new.limit ≡ holdings.old.limit }
     ensures full { IsErrOf result Full → holdings.old.limit < room_with (meaning_by meaning holdings.old.by_two) holdings.old.records (triples_held (meaning version) id entity.held) }
     ensures within { OnOk result (room_with (meaning_by meaning holdings.old.by_two) holdings.old.records (triples_held (meaning version) id entity.held) ≤ holdings.old.limit) }

@@ -1,12 +1,13 @@
 // By which version of the mapping the held pages are mapped, and how one is mapped by another.
 
-ghost use Rattle.std.specs.Prelude.{◌≡◌, ◌<◌, ◌≤◌, ◌+◌, None, IfOk, IfSome, IsErrOf, IsOk, OnErr, OnOk, length};
+ghost use Rattle.std.specs.Prelude.{◌≡◌, ◌<◌, ◌≤◌, ◌+◌, false, None, IfOk, IfSome, IsErrOf, IsOk, OnErr, OnOk, length};
 ghost use Rattle.replay_model.specs.{Records.record_of, Versions.all_by, Versions.meaning_by};
 ghost use Rattle.fetched_pages.specs.Meaning.{meaning};
-ghost use Rattle.holders.specs.{Changing.Tells, Holding.AreHolders, Roomed.HasRoom, Roomed.room_with};
+ghost use Rattle.holders.specs.Holding.{AreHolders};
+ghost use Rattle.world.specs.{Held.TellsChange, Limit.HasRoomBy, Roomed.needs_anew};
 ghost use Rattle.holdings.specs.Mapped.{AreTriplesOf};
 ghost use Rattle.world.specs.Routed.{entity_of};
-ghost use Rattle.world.specs.WorldState.{held_version, next_stale, remapped, stale, stored_of, triples_anew};
+ghost use Rattle.world.specs.WorldState.{held_version, next_stale, remapped, stale, stored_of};
 ghost use Rattle.world.specs.declared.applied.WorldFault.TheVariants.{Full, Nothing as NothingDue};
 
 use crate::applied::{RemappedStep, WorldFault};
@@ -59,11 +60,9 @@ impl World {
         ensures ok { OnOk result (self.new ≡ remapped self.old) }
         ensures entity { IfOk result (λ entity. entity ≡ next_stale self.old) }
         ensures fewer { IfOk result (λ entity. IfSome entity (λ _. length (stale self.new) + 1 ≡ length (stale self.old))) }
-        ensures full { IsErrOf result Full → self.old.limit
-            < room_with (meaning_by meaning self.old.by_two) self.old.replay.played.records (triples_anew self.old) }
-        ensures within { OnOk result (room_with (meaning_by meaning self.old.by_two) self.old.replay.played.records
-            (triples_anew self.old) ≤ self.old.limit) }
-        ensures held { HasRoom (meaning_by meaning self.new.by_two) self.new.limit self.new.replay.played.records }
+        ensures full { IsErrOf result Full → self.old.limit.terms < needs_anew self.old }
+        ensures within { OnOk result (needs_anew self.old ≤ self.old.limit.terms) }
+        ensures held { HasRoomBy self.new.limit (meaning_by meaning self.new.by_two) self.new.replay.played.records }
         ensures holders { AreHolders self.new.by_two self.new.replay.played.records }
         ensures err { OnErr result (self.new ≡ self.old) }
         ensures something { ¬ (IsErrOf result NothingDue) }
@@ -82,13 +81,11 @@ impl World {
         ensures ok { OnOk result (self.new ≡ remapped self.old) }
         ensures entity { IfOk result (λ done. entity_of done ≡ next_stale self.old) }
         ensures fewer { IfOk result (λ done. IfSome done (λ _. length (stale self.new) + 1 ≡ length (stale self.old))) }
-        ensures change { IfOk result (λ done. IfSome done (λ remapping. Tells telling (stored_of self.old) (stored_of self.new) remapping.change)) }
-        ensures triples { IfOk result (λ done. IfSome done (λ remapping. AreTriplesOf self.old.mapping remapping.entity (record_of self.old.replay.played.records remapping.entity).held remapping.triples)) }
-        ensures full { IsErrOf result Full → self.old.limit
-            < room_with (meaning_by meaning self.old.by_two) self.old.replay.played.records (triples_anew self.old) }
-        ensures within { OnOk result (room_with (meaning_by meaning self.old.by_two) self.old.replay.played.records
-            (triples_anew self.old) ≤ self.old.limit) }
-        ensures held { HasRoom (meaning_by meaning self.new.by_two) self.new.limit self.new.replay.played.records }
+        ensures change { IfOk result (λ done. IfSome done (λ remapping. TellsChange telling (stored_of self.old) (stored_of self.new) remapping.change)) }
+        ensures triples { self.old.limit.lean ≡ false → IfOk result (λ done. IfSome done (λ remapping. AreTriplesOf self.old.mapping remapping.entity (record_of self.old.replay.played.records remapping.entity).held remapping.triples)) }
+        ensures full { IsErrOf result Full → self.old.limit.terms < needs_anew self.old }
+        ensures within { OnOk result (needs_anew self.old ≤ self.old.limit.terms) }
+        ensures held { HasRoomBy self.new.limit (meaning_by meaning self.new.by_two) self.new.replay.played.records }
         ensures holders { AreHolders self.new.by_two self.new.replay.played.records }
         ensures err { OnErr result (self.new ≡ self.old) }
         ensures something { ¬ (IsErrOf result NothingDue) }
@@ -97,7 +94,10 @@ impl World {
         let Some(entity) = self.holdings.next_stale(self.mapping) else {
             return Ok(None);
         };
-        let remapped = match self.holdings.remap(entity, self.mapping, telling) {
+        let remapped = match self
+            .holdings
+            .remap(self.alloc, entity, self.mapping, telling)
+        {
             Ok(remapped) => remapped,
             Err(fault) => return Err(WorldFault::from(fault)),
         };

@@ -1,6 +1,6 @@
 // The state of a replay.
 
-ghost use Rattle.std.specs.Prelude.{◌≡◌, ◌<◌, ◌+◌, ◌++◌, [], false, Some, length, IfOk, IsOk, OnErr, OnOk};
+ghost use Rattle.std.specs.Prelude.{◌≡◌, ◌<◌, ◌+◌, ◌++◌, [], false, true, Some, length, IfOk, IsOk, OnErr, OnOk};
 ghost use Rattle.std.specs.FinMap as map;
 ghost use Rattle.reorder_buffer.specs.{Buffered.after_taking, Buffered.answer_to, declared.taken.Taken.TheVariants.Repeat};
 ghost use Rattle.sorted_sets.specs.Rising.{has};
@@ -8,7 +8,9 @@ ghost use Rattle.entity_model.specs.Event.{event_cmp};
 ghost use Rattle.replay_model.specs.ReplayState.{after_end, after_event, after_mark, nothing_delivered, nothing_delivered_within, taken_entries};
 ghost use Rattle.entity_model.specs.declared.mapping.MappingVersion.TheVariants.{One};
 ghost use Rattle.rdf_term.specs.Limits.{default_max_terms};
+ghost use Rattle.world.specs.Limit.{whole};
 
+use crate::held::{WorldHoldings, discard as discard_holdings};
 use entity_model::{Event, MappingVersion};
 use entity_state::{Entry, Side};
 use holdings::Holdings;
@@ -19,22 +21,23 @@ use std::hash::RandomState;
 use std::marker::Model;
 
 /// The waiting events, the side output, the version of the mapping in force, and what the entities hold, with the triples that all held
-/// pages mean, each with the number of its owners. Contracts see the state of a replay, which determines the triples; the limit on terms;
-/// and the version of the mapping in force, with the entities whose pages are mapped by version Two.
+/// pages mean, each with the number of its owners; a lean world has only those triples that two pages may share. Contracts see the state of
+/// a replay, which determines the triples; the limit on terms, and of which triples these are; and the version of the mapping in force, with the entities whose pages are mapped by version Two.
 #[derive(Drop)]
 pub struct World {
     pub(crate) alloc: Global,
     pub(crate) buffer: Buffer,
     pub(crate) side: Side,
     pub(crate) mapping: MappingVersion,
-    pub(crate) holdings: Holdings,
+    pub(crate) holdings: WorldHoldings,
+    keys: RandomState,
 }
 
 impl Model for World {
     ghost use Rattle.replay_model.specs.{Entries.HoldsUnlessOpen, Records.record_of, Replies.HoldsDocument, Versions.meaning_by};
     ghost use Rattle.fetched_pages.specs.Meaning.{meaning};
-    ghost use Rattle.world.specs.{Codes.world_code, WorldState.WorldState, WorldState.played_of};
-    ghost use Rattle.holders.specs.{Holding.AreHolders, Roomed.HasRoom};
+    ghost use Rattle.world.specs.{Codes.world_code, Held.held_in, Limit.HasRoomBy, WorldState.WorldState, WorldState.played_of};
+    ghost use Rattle.holders.specs.{Holding.AreHolders};
     ghost use Rattle.entity_json.specs.Document.{unfit_of};
     ghost use Rattle.entity_model.specs.declared.id.EntityId.{EntityId};
 
@@ -43,21 +46,21 @@ impl Model for World {
     ghost coded = { world_code };
 
     ghost view = { λ a. record {
-      replay = record { buffer = a.buffer; played = played_of a.holdings a.side.entries };
-      limit = a.holdings.limit;
+      replay = record { buffer = a.buffer; played = played_of (held_in a.holdings) a.side.entries };
+      limit = (held_in a.holdings).limit;
       mapping = a.mapping;
-      by_two = a.holdings.by_two;
+      by_two = (held_in a.holdings).by_two;
     } };
 
-    ghost invariant = { λ a. HoldsUnlessOpen (played_of a.holdings a.side.entries) × HasRoom (meaning_by meaning a.holdings.by_two) a.holdings.limit a.holdings.records
-        × AreHolders a.holdings.by_two a.holdings.records × ((x : EntityId) → HoldsDocument unfit_of x (record_of a.holdings.records x).held) };
+    ghost invariant = { λ a. HoldsUnlessOpen (played_of (held_in a.holdings) a.side.entries) × HasRoomBy (held_in a.holdings).limit (meaning_by meaning (held_in a.holdings).by_two) (held_in a.holdings).records
+        × AreHolders (held_in a.holdings).by_two (held_in a.holdings).records × ((x : EntityId) → HoldsDocument unfit_of x (record_of (held_in a.holdings).records x).held) };
 }
 
 impl World {
     /// The world before the first delivery, without a horizon and with a limit of `DEFAULT_MAX_TERMS` terms. Version One of the mapping is in force.
     /// The hashes of its terms are keyed by `keys`.
     pub fn new(alloc: Global, keys: RandomState) -> Result<World, OutOfMemory>
-        ensures { IfOk result (λ world. world ≡ record { replay = nothing_delivered; limit = default_max_terms; mapping = One; by_two = [] }) }
+        ensures { IfOk result (λ world. world ≡ record { replay = nothing_delivered; limit = whole default_max_terms; mapping = One; by_two = [] }) }
     {
         let buffer = Buffer::new(alloc)?;
         let Ok(holdings) = Holdings::new(alloc, keys, DEFAULT_MAX_TERMS) else {
@@ -69,17 +72,32 @@ impl World {
             buffer,
             side: Side::new(alloc),
             mapping: MappingVersion::One,
-            holdings,
+            holdings: WorldHoldings::All(holdings),
+            keys,
         })
     }
 
     /// Sets the limit on distinct terms, before any event is applied.
     pub fn set_limit(&mut self, terms: u32)
-        requires { map.len self.old.replay.played.records ≡ 0 }
-        ensures { self.new ≡ record self.old { limit = terms } }
+        requires records { map.len self.old.replay.played.records ≡ 0 }
+        requires all { self.old.limit.lean ≡ false }
+        ensures { self.new ≡ record self.old { limit = whole terms } }
     {
         self.holdings.set_limit(terms);
         self.holdings.facts();
+    }
+
+    /// Makes the world lean, before any event is applied, and sets the limit on distinct terms: from then on it stores only the triples that
+    /// two pages may share, and packs the pages. After `OutOfMemory` nothing has changed.
+    pub fn make_lean(&mut self, terms: u32) -> Result<(), OutOfMemory>
+        requires records { self.old.replay.played.records ≡ map.empty }
+        requires by_two { self.old.by_two ≡ [] }
+        ensures ok { OnOk result (self.new ≡ record self.old { limit = record { terms = terms; lean = true } }) }
+        ensures err { OnErr result (self.new ≡ self.old) }
+    {
+        self.holdings.make_lean(self.alloc, self.keys, terms)?;
+        self.holdings.facts();
+        Ok(())
     }
 
     /// Sets the horizon, in microseconds, before any delivery is taken: events whose time is further behind the greatest watermark are
@@ -135,8 +153,9 @@ pub fn discard(world: World) {
         side,
         mapping: _,
         holdings,
+        keys: _,
     } = world;
-    holdings::discard(holdings);
+    discard_holdings(holdings);
     drop(buffer);
     drop(side);
 }

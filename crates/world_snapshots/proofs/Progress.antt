@@ -13,7 +13,7 @@ use Rattle.replay_model.proofs.ToldContents.{Each-append}
 use Rattle.sorted_sets.specs.Rising.{Each}
 use Rattle.world_snapshots.proofs.Feeds.{feeds-unended, feeds-whole}
 use Rattle.wq_io.proofs.LineLists.{one_line-cons}
-use Rattle.world.specs.WorldState.{WorldState}
+use Rattle.world.specs.{Limit.Limit, WorldState.WorldState}
 
 -- ---- lines one after the other
 
@@ -205,7 +205,7 @@ module _ (bytes : List ℕ) (left : Option (List ℕ)) (reader : Reading) (loadi
           refused = inl refused;
         }
 
-    pub full_line : (w : WorldState) (stage : Stage) (limit : ℕ) → loading ≡ loading_of w stage reader.given → w.limit ≡ limit → IsReady w stage reader.given → length text ≤ longest_line
+    pub full_line : (w : WorldState) (stage : Stage) (limit : Limit) → loading ≡ loading_of w stage reader.given → w.limit ≡ limit → IsReady w stage reader.given → length text ≤ longest_line
         → Overfills text (loading_of w stage reader.given) w → IsFileOverfull limit bytes
     full_line w stage limit stands limit_is ready short over =
         let line = next_line (loading_of w stage (length p.done)) (stands ∙ ap (loading_of w stage) p.read.counted) in

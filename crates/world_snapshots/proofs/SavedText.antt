@@ -1,5 +1,5 @@
 -- The lines that are written one after the other are those of the snapshot.
-use Rattle.std.proofs.Common.{◌≡◌, ℕ, ◌+◌, List, [], ◌∷◌, ◌++◌, length, flat_map, refl, sym, ◌∙◌, ap, subst, append_assoc, append-nil, arith, length-append, unwrap_or, Result, Ok, Err}
+use Rattle.std.proofs.Common.{◌≡◌, ℕ, ◌+◌, List, [], ◌∷◌, ◌++◌, length, flat_map, refl, sym, ◌∙◌, ap, subst, append_assoc, append-nil, arith, length-append, unwrap_or, Result, Ok}
 use Rattle.std.specs.Prelude.{map}
 use Rattle.std.specs.FinMap as finite
 use Rattle.std.proofs.{lemmas.List.length-map, lemmas.List.Concat.flat_map-append}

@@ -15,8 +15,7 @@ use Rattle.reorder_buffer.specs.{Watermarks.reached, Buffered.after_taking}
 use Rattle.replay_model.specs.{Records.Bytes, Replies.failed_event, Replies.failed_events, Play.nothing_played}
 use Rattle.replay_model.specs.ReplayState.{ReplayState, nothing_delivered}
 use Rattle.replay_model.specs.Versions.{all_by, is_holder, meaning_by}
-use Rattle.holders.specs.Roomed.{HasRoom}
-use Rattle.world.specs.{Restoring.MayStand, Restoring.restored, WorldState.WorldState}
+use Rattle.world.specs.{Limit.HasRoomBy, Limit.Limit, Limit.stored_by, Restoring.MayStand, Restoring.restored, WorldState.WorldState}
 use Rattle.holders.proofs.Rooming.{nothing_held}
 use Rattle.world.proofs.PuttingIn.{documents_put, no_documents}
 use Rattle.fetched_pages.specs.Meaning.{meaning}
@@ -44,14 +43,14 @@ on_ok_both (Err e) first second then = tt
 
 -- ---- a new world
 
-pub new_ready : (room : ℕ) → IsReady (record { replay = nothing_delivered; limit = room; mapping = One; by_two = [] }) Unbegun 0
+pub new_ready : (room : Limit) → IsReady (record { replay = nothing_delivered; limit = room; mapping = One; by_two = [] }) Unbegun 0
 new_ready room = record {
   fresh = (refl, refl);
   by_one = sym (all_by-empty One);
   resting = rests-empty None None;
   failed = λ e there. cc;
   documents = no_documents;
-  held = nothing_held (meaning_by meaning []) nothing_played.records room (map.len-empty _ _);
+  held = nothing_held (stored_by room.lean (meaning_by meaning []) nothing_played.records) nothing_played.records room.terms (map.len-empty _ _);
   within = tt;
 }
 
@@ -67,7 +66,7 @@ head_ready old new n number h counts ready is within = subst (λ (w : WorldState
   resting = rests-empty h.horizon h.mark;
   failed = λ e there. cc;
   documents = no_documents;
-  held = nothing_held (meaning_by meaning old.by_two) nothing_played.records old.limit (map.len-empty _ _);
+  held = nothing_held (stored_by old.limit.lean (meaning_by meaning old.by_two) nothing_played.records) nothing_played.records old.limit.terms (map.len-empty _ _);
   within = within;
 })
 
@@ -127,7 +126,7 @@ entry_ready old new counts n number entry ready may is = subst (λ (w : WorldSta
 -- ---- the record of an entity
 
 pub record_ready : (old new : WorldState) (counts : Counts) (n number : ℕ) (x : EntityId) (r : Record Bytes) → IsReady old (Begun counts) n → MayStand old.replay.played.side x r
-    → new ≡ restored old x r → new.by_two ≡ all_by new.mapping new.replay.played.records → HasRoom (meaning_by meaning new.by_two) new.limit new.replay.played.records → IsReady new (Begun counts) number
+    → new ≡ restored old x r → new.by_two ≡ all_by new.mapping new.replay.played.records → HasRoomBy new.limit (meaning_by meaning new.by_two) new.replay.played.records → IsReady new (Begun counts) number
 record_ready old new counts n number x r ready may is by_one held = record {
   fresh = tt;
   by_one = by_one;

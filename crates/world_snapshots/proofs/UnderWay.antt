@@ -5,7 +5,7 @@ use Rattle.wq_io.specs.Streams.{before_known, IsAtEnd}
 use Rattle.wq_io.specs.Lines.{GoesOn, HasCause as HasReadCause, IsSound, Reading, fresh, input_length, input_lines, lines, taken, unread}
 use Rattle.wq_io.specs.declared.lines.LineFault.{LineFault}
 use Rattle.wq_io.specs.declared.lines.LineFault.TheVariants.{ReadFault as NotRead, TooLong as OverLong, LineLong, OutOfMemory as LineOutOfMemory}
-use Rattle.world.specs.WorldState.{WorldState}
+use Rattle.world.specs.{Limit.Limit, WorldState.WorldState}
 use Rattle.snapshot.specs.{File.saved_in_bytes, LineText.line_of, Whole.whole, declared.line.Line.Line, declared.counts.Counts.Counts}
 use Rattle.checkpoint.specs.declared.fault.LoadFault.{LoadFault}
 use Rattle.checkpoint.specs.declared.fault.LoadFault.TheVariants.{ReadFault, TooLong, BadLine, Full, OutOfMemory}
@@ -18,7 +18,7 @@ use Rattle.checkpoint.proofs.OneCause.{comes_later, not_behind_bad, one_of_all}
 use Rattle.world_snapshots.proofs.Progress.{IsNextLine, Progress, ends_early, full_line, line_read, next_line, nothing_read, over_long, refused_line, saved, too_long, unended}
 
 -- the lines so far were read and went into the world
-pub record UnderWay (room : ℕ) (start : Option (List ℕ)) (reader : Reading) (left : Option (List ℕ)) (w : WorldState) (stage : Stage) (given so_far : ℕ) : Type 0 where
+pub record UnderWay (room : Limit) (start : Option (List ℕ)) (reader : Reading) (left : Option (List ℕ)) (w : WorldState) (stage : Stage) (given so_far : ℕ) : Type 0 where
   pub progress : Progress start reader left (loading_of w stage given) so_far
   pub ready : IsReady w stage given
   pub limit : w.limit ≡ room
@@ -34,7 +34,7 @@ pub record UnderWay (room : ℕ) (start : Option (List ℕ)) (reader : Reading) 
 fresh_sound : IsSound (fresh longest_file longest_line)
 fresh_sound = record { within = omega arith; counted = omega arith; bounded = omega arith; buffered = omega arith }
 
-pub begins : (room : ℕ) (start : Option (List ℕ)) (w : WorldState) (stage : Stage) → stage ≡ Unbegun → IsReady w stage 0 → w.limit ≡ room → UnderWay room start (fresh longest_file longest_line) start w stage 0 0
+pub begins : (room : Limit) (start : Option (List ℕ)) (w : WorldState) (stage : Stage) → stage ≡ Unbegun → IsReady w stage 0 → w.limit ≡ room → UnderWay room start (fresh longest_file longest_line) start w stage 0 0
 begins room start w stage is ready limit = record {
   progress = subst (λ (s : Stage). Progress start (fresh longest_file longest_line) start (loading_of w s 0) 0) (sym is) (nothing_read longest_file longest_line start);
   ready = ready;
@@ -53,7 +53,7 @@ begins room start w stage is ready limit = record {
     none_yet (Some bytes) = λ over. omega arith
 
 -- one more line
-pub goes_on : (room : ℕ) (start left left_next : Option (List ℕ)) (reader next : Reading) (w w2 : WorldState) (stage stage2 : Stage) (given number n m : ℕ) (text : List ℕ)
+pub goes_on : (room : Limit) (start left left_next : Option (List ℕ)) (reader next : Reading) (w w2 : WorldState) (stage stage2 : Stage) (given number n m : ℕ) (text : List ℕ)
     → UnderWay room start reader left w stage given n → IsNextLine text reader next left left_next → GoesOn reader next text → number ≡ given + 1
     → (next.ended ≡ true → IsAtEnd left_next)
     → LoadsLine text (loading_of w stage (number - 1)) (loading_of w2 stage2 number) → IsReady w2 stage2 number → w2.limit ≡ w.limit
@@ -88,7 +88,7 @@ goes_on room start left left_next reader next w w2 stage stage2 given number n m
         )
 
 -- where no line is left all stays
-pub none_left : (room : ℕ) (start left left_next : Option (List ℕ)) (reader next : Reading) (w : WorldState) (stage : Stage) (given n : ℕ) (text : List ℕ)
+pub none_left : (room : Limit) (start left left_next : Option (List ℕ)) (reader next : Reading) (w : WorldState) (stage : Stage) (given n : ℕ) (text : List ℕ)
     → UnderWay room start reader left w stage given n → unread next left_next ≡ unread reader left → input_length next left_next ≡ input_length reader left → next.given ≡ reader.given
     → GoesOn reader next text → (next.ended ≡ true → IsAtEnd left_next) → UnderWay room start next left_next w stage given n
 none_left room start left left_next reader next w stage given n text u same total no_more goes ended = record {
@@ -126,15 +126,15 @@ nothing_left held (Some bytes) at_end = no_second held bytes at_end
     no_second (x ∷ xs) ys none = cc
 
 -- a line that is refused, where no line before lacks room
-bad_within : (room : ℕ) (bytes : List ℕ) (number given : ℕ) → number ≡ given + 1 → IsBadSnapshotLine bytes number → ((over : IsFileOverfull room bytes) → given ≤ length over.done) → IsNoSnapshotWithin room bytes number
+bad_within : (room : Limit) (bytes : List ℕ) (number given : ℕ) → number ≡ given + 1 → IsBadSnapshotLine bytes number → ((over : IsFileOverfull room bytes) → given ≤ length over.done) → IsNoSnapshotWithin room bytes number
 bad_within room bytes number given next_is bad roomy = (inl bad, λ over. not_behind_bad room bytes over number bad (omega (arith, next_is, bad.counted, roomy over)))
 
 -- where all lines came, none lacks room
-none_lacks : (room : ℕ) (bytes : List ℕ) (given : ℕ) → given ≡ length (lines bytes) → ((over : IsFileOverfull room bytes) → given ≤ length over.done) → IsFileOverfull room bytes → ⊥
+none_lacks : (room : Limit) (bytes : List ℕ) (given : ℕ) → given ≡ length (lines bytes) → ((over : IsFileOverfull room bytes) → given ≤ length over.done) → IsFileOverfull room bytes → ⊥
 none_lacks room bytes given all roomy over = absurd (omega (arith, all, roomy over, one_of_all room bytes over))
 
 -- the reader gives no line
-pub fault_stops : (room : ℕ) (start left : Option (List ℕ)) (reader : Reading) (w : WorldState) (stage : Stage) (given n : ℕ) → UnderWay room start reader left w stage given n
+pub fault_stops : (room : Limit) (start left : Option (List ℕ)) (reader : Reading) (w : WorldState) (stage : Stage) (given n : ℕ) → UnderWay room start reader left w stage given n
     → (fault : LineFault) (before now first : ℕ) → first ≤ before → HasReadCause fault reader left before now → HasCause (fault_of fault) room start first now
 fault_stops room start left reader w stage given n u NotRead before now first later cause = omega arith
 fault_stops room None left reader w stage given n u OverLong before now first later cause = tt
@@ -146,7 +146,7 @@ fault_stops room (Some bytes) left reader w stage given n u (LineLong number) be
 fault_stops room start left reader w stage given n u LineOutOfMemory before now first later cause = tt
 
 -- a line isn't taken
-pub line_stops : (room : ℕ) (start left left_next : Option (List ℕ)) (reader next : Reading) (w : WorldState) (stage : Stage) (given number n : ℕ) (text : List ℕ)
+pub line_stops : (room : Limit) (start left left_next : Option (List ℕ)) (reader next : Reading) (w : WorldState) (stage : Stage) (given number n : ℕ) (text : List ℕ)
     → UnderWay room start reader left w stage given n → IsNextLine text reader next left left_next → number ≡ given + 1
     → (fault : LoadFault) → ((k : ℕ) → fault ≡ BadLine k → (k ≡ number) × IsRefused text (loading_of w stage (number - 1))) → (fault ≡ Full → Overfills text (loading_of w stage (number - 1)) w) → length text ≤ longest_line
     → (fault ≡ ReadFault → ⊥) → (fault ≡ TooLong → ⊥) → (first now : ℕ) → HasCause fault room start first now
@@ -168,7 +168,7 @@ line_stops room (Some bytes) left left_next reader next w stage given number n t
 line_stops room start left left_next reader next w stage given number n text u is next_is OutOfMemory bad full short no_read no_long first now = tt
 
 -- the last line isn't ended
-pub unended_stops : (room : ℕ) (start left : Option (List ℕ)) (reader : Reading) (w : WorldState) (stage : Stage) (given n : ℕ) → UnderWay room start reader left w stage given n
+pub unended_stops : (room : Limit) (start left : Option (List ℕ)) (reader : Reading) (w : WorldState) (stage : Stage) (given n : ℕ) → UnderWay room start reader left w stage given n
     → IsAtEnd (unread reader left) → taken reader ≢ n → (first now : ℕ) → HasCause (BadLine given) room start first now
 unended_stops room None left reader w stage given n u at_end other first now = tt
 unended_stops room (Some bytes) left reader w stage given n u at_end other first now =
@@ -176,7 +176,7 @@ unended_stops room (Some bytes) left reader w stage given n u at_end other first
     (inr (inr last), none_lacks room bytes given last.counted u.roomy)
 
 -- the lines end before the snapshot does
-pub early_stops : (room : ℕ) (start left : Option (List ℕ)) (reader : Reading) (w : WorldState) (stage : Stage) (given n : ℕ) → UnderWay room start reader left w stage given n
+pub early_stops : (room : Limit) (start left : Option (List ℕ)) (reader : Reading) (w : WorldState) (stage : Stage) (given n : ℕ) → UnderWay room start reader left w stage given n
     → IsAtEnd (unread reader left) → taken reader ≡ n → whole (loading_of w stage given) ≡ None → (first now : ℕ) → HasCause (BadLine (given + 1)) room start first now
 early_stops room None left reader w stage given n u at_end same short first now = tt
 early_stops room (Some bytes) left reader w stage given n u at_end same short first now =
@@ -184,7 +184,7 @@ early_stops room (Some bytes) left reader w stage given n u at_end same short fi
     (inr (inl early), none_lacks room bytes given (omega (arith, early.counted)) u.roomy)
 
 -- the snapshot is whole
-pub all_loaded : (room : ℕ) (start left : Option (List ℕ)) (reader : Reading) (w : WorldState) (stage : Stage) (counts : Counts) (given n : ℕ) → UnderWay room start reader left w stage given n
+pub all_loaded : (room : Limit) (start left : Option (List ℕ)) (reader : Reading) (w : WorldState) (stage : Stage) (counts : Counts) (given n : ℕ) → UnderWay room start reader left w stage given n
     → IsAtEnd (unread reader left) → taken reader ≡ n → stage ≡ Ended counts → IfSome start (λ bytes. saved_in_bytes bytes ≡ Some (saved_of w counts))
 all_loaded room None left reader w stage counts given n u at_end same is = tt
 all_loaded room (Some bytes) left reader w stage counts given n u at_end same is =

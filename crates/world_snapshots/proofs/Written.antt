@@ -1,5 +1,5 @@
 -- What is written of a snapshot in parts is written as a whole, and is kept.
-use Rattle.std.proofs.Common.{◌≡◌, ℕ, ◌+◌, ◌<◌, ◌≤◌, List, [], ◌∷◌, ◌++◌, length, take, get_or, flat_map, Option, None, Some, Result, Ok, Err, refl, sym, ◌∙◌, ap, arith}
+use Rattle.std.proofs.Common.{◌≡◌, ℕ, ◌+◌, ◌≤◌, List, [], ◌++◌, take, flat_map, Option, None, Some, Result, Ok, Err, refl, sym, ◌∙◌, ap, arith}
 use Rattle.std.specs.Prelude.{MatchResult}
 use Rattle.wq_io.specs.Streams.{Rose, after_known}
 use Rattle.text_output.specs.declared.write.Unwritten.{Unwritten}

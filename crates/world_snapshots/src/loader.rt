@@ -1,11 +1,11 @@
 // A world that is put together line by line.
 
-ghost use Rattle.std.specs.Prelude.{◌≡◌, ◌↔◌, ℕ, ◌-◌, ◌≤◌, true, [], Some, IfOk, IsErrOf, OnErr, OnOk};
+ghost use Rattle.std.specs.Prelude.{◌≡◌, ◌↔◌, ℕ, ◌-◌, ◌≤◌, false, true, [], Some, IfOk, IsErrOf, OnErr, OnOk};
+ghost use Rattle.std.specs.FinMap as map;
 ghost use Rattle.replay_model.specs.{Play.nothing_played, ReplayState.nothing_delivered, ReplayState.nothing_delivered_within};
 ghost use Rattle.replay_model.specs.Versions.{all_by, meaning_by};
 ghost use Rattle.fetched_pages.specs.Meaning.{meaning};
-ghost use Rattle.holders.specs.Roomed.{HasRoom};
-ghost use Rattle.world.specs.Restoring.{MayStand, restored};
+ghost use Rattle.world.specs.{Limit.HasRoomBy, Restoring.MayStand, Restoring.restored};
 ghost use Rattle.snapshot.specs.{declared.line.Line.TheVariants.Entity, Waiting.at_mark, Whole.after_line, Whole.beginning, Whole.noting};
 ghost use Rattle.reorder_buffer.specs.Watermarks.{reached};
 ghost use Rattle.checkpoint.specs.Loading.{HasNoRoomForLine, IsOutOfPlace, IsReady, LacksRoom, MayCome, loading_of, may_note};
@@ -19,7 +19,7 @@ use rdf_term::{OutOfMemory, Text};
 use snapshot::{Counts, Head, Line, replays_can_be_saved};
 use std::alloc::Global;
 use std::hash::RandomState;
-use world::{RestoreFault, World};
+use world::{RestoreFault, World, discard};
 
 /// The greatest count with which a run may go on: it leaves a number for each question, record and line to come.
 const MOST: u64 = 9_223_372_036_854_775_808;
@@ -32,17 +32,27 @@ pub(crate) struct Loader {
 }
 
 impl Loader {
-    /// Before the first line, with room for so many terms. The hashes of the world are keyed by `keys`.
-    pub(crate) fn new(alloc: Global, keys: RandomState, room: u32) -> Result<Loader, OutOfMemory>
+    /// Before the first line, with room for so many terms in a world that is lean or not. The hashes of the world are keyed by `keys`.
+    pub(crate) fn new(
+        alloc: Global,
+        keys: RandomState,
+        room: u32,
+        lean: bool,
+    ) -> Result<Loader, OutOfMemory>
         ensures fresh { IfOk result (λ loader. (loader.stage ≡ Stage.Unbegun) × IsReady loader.world loader.stage 0) }
-        ensures limit { IfOk result (λ loader. loader.world.limit ≡ room) }
+        ensures limit { IfOk result (λ loader. loader.world.limit ≡ record { terms = room; lean = lean }) }
     {
         let mut world = World::new(alloc, keys)?;
-        world.set_limit(room);
-        Ok(Loader {
-            world,
-            stage: Stage::Unbegun,
-        })
+        match set_limit(&mut world, room, lean) {
+            Ok(()) => Ok(Loader {
+                world,
+                stage: Stage::Unbegun,
+            }),
+            Err(OutOfMemory) => {
+                discard(world);
+                Err(OutOfMemory)
+            }
+        }
     }
 
     /// Takes the line with this number, where it may come.
@@ -96,6 +106,20 @@ impl Loader {
         set_mark(&mut self.world, head.mark);
         self.stage = Stage::Begun(head.counts);
     }
+}
+
+// Sets the limit on the terms of a new world, which is lean or not.
+fn set_limit(world: &mut World, room: u32, lean: bool) -> Result<(), OutOfMemory>
+    requires records { world.old.replay.played.records ≡ map.empty }
+    requires by_two { world.old.by_two ≡ [] }
+    requires all { world.old.limit.lean ≡ false }
+    ensures { OnOk result (world.new ≡ record world.old { limit = record { terms = room; lean = lean } }) }
+{
+    if lean {
+        return world.make_lean(room);
+    }
+    world.set_limit(room);
+    Ok(())
 }
 
 // Whether a run may go on with these counts.
@@ -176,7 +200,7 @@ fn restore(
     ensures sound { OnOk result (MayStand world.old.replay.played.side id entity) }
     ensures by_one { world.old.by_two ≡ all_by world.old.mapping world.old.replay.played.records →
         world.new.by_two ≡ all_by world.new.mapping world.new.replay.played.records }
-    ensures held { HasRoom (meaning_by meaning world.new.by_two) world.new.limit world.new.replay.played.records }
+    ensures held { HasRoomBy world.new.limit (meaning_by meaning world.new.by_two) world.new.replay.played.records }
     ensures err { OnErr result (world.new ≡ world.old) }
     ensures bad { (n : ℕ) → IsErrOf result (BadLine n) → (n ≡ number) × ¬ (MayStand world.old.replay.played.side id entity) }
     ensures full { IsErrOf result Full → MayStand world.old.replay.played.side id entity × HasNoRoomForLine world.old (Entity id entity) }

@@ -7,8 +7,7 @@ ghost use Rattle.entity_model.specs.{Event.event_cmp, declared.event.Event.Event
 ghost use Rattle.replay_model.specs.{Explained.is_applied, Replies.failed_events, Versions.meaning_by};
 ghost use Rattle.sorted_sets.specs.Rising.{has};
 ghost use Rattle.fetched_pages.specs.Meaning.{meaning};
-ghost use Rattle.holders.specs.Roomed.{HasRoom};
-ghost use Rattle.world.specs.WorldState.{WorldState};
+ghost use Rattle.world.specs.{Limit.HasRoomBy, WorldState.WorldState};
 ghost use Rattle.snapshot.specs.declared.line.Line.{Line as ALine};
 ghost use Rattle.snapshot.specs.{File.saved_in_bytes, LineText.line_of, Whole.whole};
 ghost use Rattle.checkpoint.specs.Causes.{HasCause};
@@ -39,34 +38,35 @@ pub struct Loaded {
     pub counts: Counts,
 }
 
-/// Reads a snapshot into a new world whose limit on terms is `room`: the world that was saved. Every page is mapped by the version in
-/// force, and no event is due. The hashes of the world are keyed by `keys`. Whoever made the file, each held page is a document of its
-/// entity, an entity holds what its state wants exactly if no entry of the side output says otherwise, each event with a failed fetch was
-/// applied, what is held is within the limit, and each count is at most 2^63.
+/// Reads a snapshot into a new world, lean or not, whose limit on terms is `room`: the world that was saved. Every page is mapped by the
+/// version in force, and no event is due. The hashes of the world are keyed by `keys`. Whoever made the file, each held page is a document
+/// of its entity, an entity holds what its state wants exactly if no entry of the side output says otherwise, each event with a failed
+/// fetch was applied, what is stored is within the limit, and each count is at most 2^63.
 ///
 /// # Errors
-/// The file can't be read, or is too long; a line may not come there, is over-long or lacks its line feed, or the lines end too early; the
-/// triples of the pages have more distinct terms than the limit; or memory is refused. The first line that is refused or lacks room
-/// decides, so of one file and one room at most one of these two is said, and one line.
+/// The file can't be read, or is too long; a line may not come there, is over-long or lacks its line feed, or the lines end too early; what
+/// is stored of the pages' triples has more distinct terms than the limit; or memory is refused. The first line that is refused or lacks
+/// room decides, so of one file and one kind of world with one room at most one of these two is said, and one line.
 pub fn load<S: Source>(
     alloc: Global,
     keys: RandomState,
     room: u32,
+    lean: bool,
     file: &mut S,
 ) -> Result<Loaded, LoadFault>
     ensures saved { IfOk result (λ loaded. IfSome (S.left file.old) (λ bytes. saved_in_bytes bytes ≡ Some (saved_of loaded.world loaded.counts))) }
-    ensures world { IfOk result (λ loaded. loaded.world ≡ world_of room (saved_of loaded.world loaded.counts)) }
+    ensures world { IfOk result (λ loaded. loaded.world ≡ world_of (record { terms = room; lean = lean }) (saved_of loaded.world loaded.counts)) }
     ensures rests { IfOk result (λ loaded. IsResting loaded.world.replay.buffer) }
     ensures applied { IfOk result (λ loaded. (e : Event) → has event_cmp e (failed_events loaded.world.replay.played.side) ≡ true → is_applied loaded.world.replay e ≡ true) }
     ensures documents { IfOk result (λ loaded. HoldsDocuments loaded.world.replay.played.records) }
-    ensures held { IfOk result (λ loaded. HasRoom (meaning_by meaning loaded.world.by_two) loaded.world.limit loaded.world.replay.played.records) }
+    ensures held { IfOk result (λ loaded. HasRoomBy loaded.world.limit (meaning_by meaning loaded.world.by_two) loaded.world.replay.played.records) }
     ensures counts { IfOk result (λ loaded. AreWithin loaded.counts) }
     ensures whole { OnOk result (IsAtEnd (S.left file.new)) }
-    ensures fault { IfErr result (λ fault. HasCause fault room (S.left file.old) (S.faults file.old) (S.faults file.new)) }
+    ensures fault { IfErr result (λ fault. HasCause fault (record { terms = room; lean = lean }) (S.left file.old) (S.faults file.old) (S.faults file.new)) }
     ensures later { S.faults file.old ≤ S.faults file.new }
     ensures most { S.most_faults file.new ≡ S.most_faults file.old }
 {
-    let mut loader = Loader::new(alloc, keys, room)?;
+    let mut loader = Loader::new(alloc, keys, room, lean)?;
     let mut line = Vec::new(alloc);
     let loaded = load_lines(alloc, file, &mut line, &mut loader);
     drop(line);
@@ -96,7 +96,7 @@ fn load_lines<S: Source>(
     ensures rests { OnOk result (IsResting loader.new.world.replay.buffer) }
     ensures applied { OnOk result ((e : Event) → has event_cmp e (failed_events loader.new.world.replay.played.side) ≡ true → is_applied loader.new.world.replay e ≡ true) }
     ensures documents { OnOk result (HoldsDocuments loader.new.world.replay.played.records) }
-    ensures held { OnOk result (HasRoom (meaning_by meaning loader.new.world.by_two) loader.new.world.limit loader.new.world.replay.played.records) }
+    ensures held { OnOk result (HasRoomBy loader.new.world.limit (meaning_by meaning loader.new.world.by_two) loader.new.world.replay.played.records) }
     ensures counts { IfOk result AreWithin }
     ensures whole { OnOk result (IsAtEnd (S.left file.new)) }
     ensures fault { IfErr result (λ fault. HasCause fault loader.old.world.limit (S.left file.old) (S.faults file.old) (S.faults file.new)) }

@@ -1,6 +1,7 @@
 // A world is written as a snapshot, which is kept.
 
-ghost use Rattle.std.specs.Prelude.{◌≡◌, ◌+◌, IfOk, flat_map, string_bytes};
+ghost use Rattle.std.specs.Prelude.{◌≡◌, ◌+◌, false, true, IfOk, flat_map, string_bytes};
+ghost use Rattle.std.specs.Str.{IsUtf8};
 ghost use Rattle.std.specs.FinMap as map;
 ghost use Rattle.replay_model.specs.Records.{record_of};
 ghost use Rattle.snapshot.specs.declared.line.Line.TheVariants.{Entity, Remembered, Side};
@@ -10,6 +11,7 @@ ghost use Rattle.checkpoint.specs.{Archive.Keeps, Archive.Writes, Archive.archiv
 use checkpoint::Snapshots;
 use entity_model::{EntityId, Event};
 use entity_state::{Entry, Held, Record};
+use page_packing::Unpacker;
 use rdf_term::{OutOfMemory, Text};
 use snapshot::{Counts, Head, Line, documents_are_text, write};
 use std::alloc::Global;
@@ -164,8 +166,25 @@ fn write_records<F: Snapshots>(
     ensures { Writes (flat_map (λ x. ended (Entity x (record_of world.now.replay.played.records x))) ids.now)
         (archive F.Snapshots out.old) (archive F.Snapshots out.new) result }
 {
+    let mut page = Unpacker::new(alloc);
+    let written = write_each(alloc, world, ids, &mut page, out);
+    drop(page);
+    written
+}
+
+// The same; the pages of a lean world are unpacked into the buffer, one after the other.
+fn write_each<F: Snapshots>(
+    alloc: Global,
+    world: &World,
+    ids: &[EntityId],
+    page: &mut Unpacker,
+    out: &mut F,
+) -> Result<(), Unwritten>
+    ensures { Writes (flat_map (λ x. ended (Entity x (record_of world.now.replay.played.records x))) ids.now)
+        (archive F.Snapshots out.old) (archive F.Snapshots out.new) result }
+{
     for id in ids {
-        write_record(alloc, world, *id, out)?;
+        write_record(alloc, world, *id, page, out)?;
     }
     Ok(())
 }
@@ -175,19 +194,29 @@ fn write_record<F: Snapshots>(
     alloc: Global,
     world: &World,
     id: EntityId,
+    page: &mut Unpacker,
     out: &mut F,
 ) -> Result<(), Unwritten>
     ensures { Writes (ended (Entity id (record_of world.now.replay.played.records id))) (archive F.Snapshots out.old) (archive F.Snapshots out.new) result }
 {
-    let entity = record_of(alloc, world, id)?;
+    let entity = record_of(alloc, world, id, page)?;
     write_line(alloc, Line::Entity(id, entity), out)
 }
 
 // The record of an entity, with a copy of the page that it holds.
-fn record_of(alloc: Global, world: &World, id: EntityId) -> Result<Record<Text>, OutOfMemory>
+fn record_of(
+    alloc: Global,
+    world: &World,
+    id: EntityId,
+    page: &mut Unpacker,
+) -> Result<Record<Text>, OutOfMemory>
     ensures { IfOk result (λ entity. entity ≡ record_of world.now.replay.played.records id) }
 {
-    let held = held_page(alloc, world, id)?;
+    let held = if world.is_lean() {
+        unpacked_page(alloc, world, id, page)?
+    } else {
+        held_page(alloc, world, id)?
+    };
     Ok(Record {
         state: world.state(id),
         held,
@@ -195,19 +224,46 @@ fn record_of(alloc: Global, world: &World, id: EntityId) -> Result<Record<Text>,
     })
 }
 
-// A copy of the page that an entity holds, which is UTF-8 since it is a document.
+// A copy of the page that an entity of a lean world holds.
+fn unpacked_page(
+    alloc: Global,
+    world: &World,
+    id: EntityId,
+    page: &mut Unpacker,
+) -> Result<Option<Held<Text>>, OutOfMemory>
+    requires { world.now.limit.lean ≡ true }
+    ensures { IfOk result (λ held. held ≡ (record_of world.now.replay.played.records id).held) }
+{
+    documents_are_text();
+    let Some(revision) = world.read_held(id, page)? else {
+        return Ok(None);
+    };
+    let content = text_of(alloc, page.text())?;
+    Ok(Some(Held { revision, content }))
+}
+
+// A copy of the page that an entity holds, unless the world is lean.
 fn held_page(alloc: Global, world: &World, id: EntityId) -> Result<Option<Held<Text>>, OutOfMemory>
+    requires { world.now.limit.lean ≡ false }
     ensures { IfOk result (λ held. held ≡ (record_of world.now.replay.played.records id).held) }
 {
     documents_are_text();
     let Some((revision, bytes)) = world.held(id) else {
         return Ok(None);
     };
-    let Ok(page) = str::from_utf8(bytes) else {
+    let content = text_of(alloc, bytes)?;
+    Ok(Some(Held { revision, content }))
+}
+
+// A copy of a text, which is UTF-8.
+fn text_of(alloc: Global, bytes: &[u8]) -> Result<Text, OutOfMemory>
+    requires { IsUtf8 bytes.now }
+    ensures { IfOk result (λ text. text ≡ bytes.now) }
+{
+    let Ok(text) = str::from_utf8(bytes) else {
         unreachable!();
     };
-    let content = Text::new(alloc, page)?;
-    Ok(Some(Held { revision, content }))
+    Text::new(alloc, text)
 }
 
 // Writes a line, and the line feed that ends it.

@@ -1,8 +1,10 @@
 -- Where the bytes of a saved world have no room, the triples of the world have none.
-use Rattle.std.proofs.Common.{◌≡◌, ℕ, ◌+◌, ◌<◌, ◌≤◌, T, Bool, true, false, ◌&&◌, ◌||◌, List, [], ◌∷◌, ◌++◌, map, length, fold, Some, refl, sym, ◌∙◌, ap, ap₂, subst, arith, append_assoc}
+use Rattle.std.proofs.Common.{◌≡◌, ℕ, ◌+◌, ◌<◌, ◌≤◌, T, Bool, true, false, ◌&&◌, ◌||◌, List, [], ◌∷◌, ◌++◌, Option, map, length, fold, Some, refl, sym, ◌∙◌, ap, ap₂, subst, arith, append_assoc}
 use Rattle.std.specs.{List.flat_map, FinMap.entries_sorted, FinMap.get-entries, FinMap.get-from_entries, FinMap.same_map}
 use Rattle.std.specs.{FinMap.Entries.below_all, FinMap.Entries.find, FinMap.Entries.is_sorted, Ordering.eq_by_cmp}
+use Rattle.std.specs.Cmp.{IsTotalOrder}
 use Rattle.std.specs.Prelude.{⊤}
+use Rattle.std.specs.declared.cmp.Ordering.{Ordering}
 use Rattle.std.specs.FinMap as finite
 use Rattle.sorted_sets.specs.Rising.{Each, has}
 use Rattle.sorted_sets.proofs.{Bools.equal, Bools.or_true, Keys.and_first, Keys.and_second}
@@ -14,14 +16,17 @@ use Rattle.triple_store.specs.Room.{distinct, terms_of}
 use Rattle.triple_store.proofs.Distinct.{fewer}
 use Rattle.entity_model.specs.{declared.id.EntityId.EntityId, declared.event.Event.Event, declared.mapping.MappingVersion.MappingVersion}
 use Rattle.entity_model.specs.EntityId.{entity_cmp, entity_cmp_same, entity_cmp_total}
-use Rattle.entity_state.specs.declared.record.Record.{Record}
+use Rattle.entity_state.specs.{declared.record.Held.Held, declared.record.Record.Record}
 use Rattle.entity_state.specs.declared.entry.Entry.{Entry}
 use Rattle.replay_model.specs.{Records.Bytes, Records.Records, ReplayState.ReplayState}
-use Rattle.replay_model.specs.{Union.Meaning, Union.triples_at, Union.triples_held, Union.union, Versions.meaning_by}
+use Rattle.replay_model.specs.{Union.Meaning, Union.triples_at, Union.triples_held, Union.union, Versions.all_by, Versions.meaning_by}
 use Rattle.replay_model.proofs.{Versions.union-all, ToldContents.Each-append}
 use Rattle.fetched_pages.specs.Meaning.{meaning}
+use Rattle.shared_triples.specs.Lean.{stored_of, strangers}
 use Rattle.holders.specs.Roomed.{room_with}
-use Rattle.world.specs.WorldState.{WorldState}
+use Rattle.lean_holdings.specs.{Changing.counted_with, Changing.named_by, Changing.needs_of, Changing.needs_where, Changing.shared_by, Holding.strangers_on}
+use Rattle.lean_holdings.proofs.{Naming.named_held, Needing.room_more}
+use Rattle.world.specs.{Limit.Limit, Limit.needs, Limit.stored_by, Roomed.needs_now, WorldState.WorldState}
 use Rattle.snapshot.specs.declared.line.Line.{Line}
 use Rattle.snapshot.specs.declared.line.Line.TheVariants.{Head as Begins, Remembered, Entity, Side, End}
 use Rattle.snapshot.specs.LineText.{line_of}
@@ -72,41 +77,91 @@ few_terms xs ys among =
     fewer term_cmp-total term_cmp-IsAntisymmetric (flat_map terms_of xs) (flat_map terms_of ys)
     (λ k there. let one = one_of xs k there in terms_there ys one.triple k (among one.triple one.there) one.own)
 
--- ---- some of the records, and one more, have no more triples than all
+-- ---- some of the records, and one more, mean no more than all
 
-module _ (m : Meaning Triple) where
-  from_front : (front back : List (EntityId × Record Bytes)) (t : Triple) → has triple_cmp t (flat_map (triples_at m) front) ≡ true → has triple_cmp t (flat_map (triples_at m) (front ++ back)) ≡ true
+module _ {A : Type 0} (order : A → A → Ordering) (m : Meaning A) where
+  from_front : (front back : List (EntityId × Record Bytes)) (t : A) → has order t (flat_map (triples_at m) front) ≡ true → has order t (flat_map (triples_at m) (front ++ back)) ≡ true
   from_front [] back t there = cc
   from_front (e ∷ front) back t there =
-      has-append triple_cmp t (triples_at m e) (flat_map (triples_at m) (front ++ back))
-      ∙ by (has triple_cmp t (triples_at m e)) (sym (has-append triple_cmp t (triples_at m e) (flat_map (triples_at m) front)) ∙ there) (λ later. from_front front back t later)
+      has-append order t (triples_at m e) (flat_map (triples_at m) (front ++ back))
+      ∙ by (has order t (triples_at m e)) (sym (has-append order t (triples_at m e) (flat_map (triples_at m) front)) ∙ there) (λ later. from_front front back t later)
     where
-      by : (b : Bool) → (b || has triple_cmp t (flat_map (triples_at m) front)) ≡ true
-          → (has triple_cmp t (flat_map (triples_at m) front) ≡ true → has triple_cmp t (flat_map (triples_at m) (front ++ back)) ≡ true) → (b || has triple_cmp t (flat_map (triples_at m) (front ++ back))) ≡ true
+      by : (b : Bool) → (b || has order t (flat_map (triples_at m) front)) ≡ true
+          → (has order t (flat_map (triples_at m) front) ≡ true → has order t (flat_map (triples_at m) (front ++ back)) ≡ true) → (b || has order t (flat_map (triples_at m) (front ++ back))) ≡ true
       by true is rest = refl
       by false is rest = rest is
 
-  from_one : (front back : List (EntityId × Record Bytes)) (e : EntityId × Record Bytes) (t : Triple) → has triple_cmp t (triples_at m e) ≡ true → has triple_cmp t (flat_map (triples_at m) (front ++ e ∷ back)) ≡ true
-  from_one [] back e t there = has-append triple_cmp t (triples_at m e) (flat_map (triples_at m) back) ∙ or_left _ _ there
+  from_one : (front back : List (EntityId × Record Bytes)) (e : EntityId × Record Bytes) (t : A) → has order t (triples_at m e) ≡ true → has order t (flat_map (triples_at m) (front ++ e ∷ back)) ≡ true
+  from_one [] back e t there = has-append order t (triples_at m e) (flat_map (triples_at m) back) ∙ or_left _ _ there
   from_one (f ∷ front) back e t there =
-      has-append triple_cmp t (triples_at m f) (flat_map (triples_at m) (front ++ e ∷ back)) ∙ or_true (has triple_cmp t (triples_at m f)) _ (from_one front back e t there)
+      has-append order t (triples_at m f) (flat_map (triples_at m) (front ++ e ∷ back)) ∙ or_true (has order t (triples_at m f)) _ (from_one front back e t there)
 
-  few_of_them : (part whole : Records) (front back : List (EntityId × Record Bytes)) (e : EntityId × Record Bytes) → finite.entries part ≡ front → finite.entries whole ≡ front ++ e ∷ back
-      → room_with m part (triples_at m e) ≤ room_with m whole []
-  few_of_them part whole front back e part_is whole_is =
-      few_terms (union triple_cmp m part ++ triples_at m e) (union triple_cmp m whole ++ []) (λ t there.
-      by t (has triple_cmp t (union triple_cmp m part)) refl (sym (has-append triple_cmp t (union triple_cmp m part) (triples_at m e)) ∙ there))
+  module _ (total : IsTotalOrder order) (part all : Records) (front back : List (EntityId × Record Bytes)) (e : EntityId × Record Bytes) (part_is : finite.entries part ≡ front) (all_is : finite.entries all ≡ front ++ e ∷ back) where
+    in_all : (t : A) → has order t (flat_map (triples_at m) (front ++ e ∷ back)) ≡ true → has order t (union order m all) ≡ true
+    in_all t there = has-sorted total t (flat_map (triples_at m) (finite.entries all)) ∙ ap (λ es. has order t (flat_map (triples_at m) es)) all_is ∙ there
+
+    part_in_all : (t : A) → has order t (union order m part) ≡ true → has order t (union order m all) ≡ true
+    part_in_all t among =
+        in_all t (from_front front (e ∷ back) t
+        (ap (λ es. has order t (flat_map (triples_at m) es)) (sym part_is) ∙ sym (has-sorted total t (flat_map (triples_at m) (finite.entries part))) ∙ among))
+
+    one_in_all : (t : A) → has order t (triples_at m e) ≡ true → has order t (union order m all) ≡ true
+    one_in_all t there = in_all t (from_one front back e t there)
+
+-- ---- and need no more room
+
+module _ (part all : Records) (front back : List (EntityId × Record Bytes)) (e : EntityId × Record Bytes) (part_is : finite.entries part ≡ front) (all_is : finite.entries all ≡ front ++ e ∷ back) where
+  few_of_them : (m : Meaning Triple) → room_with m part (triples_at m e) ≤ room_with m all []
+  few_of_them m =
+      few_terms (union triple_cmp m part ++ triples_at m e) (union triple_cmp m all ++ []) (λ t there.
+      has-append triple_cmp t (union triple_cmp m all) []
+      ∙ or_left _ _ (by t (has triple_cmp t (union triple_cmp m part)) refl (sym (has-append triple_cmp t (union triple_cmp m part) (triples_at m e)) ∙ there)))
     where
-      whole_has : (t : Triple) → has triple_cmp t (flat_map (triples_at m) (front ++ e ∷ back)) ≡ true → has triple_cmp t (union triple_cmp m whole ++ []) ≡ true
-      whole_has t there =
-          has-append triple_cmp t (union triple_cmp m whole) []
-          ∙ or_left _ _ (has-sorted triple_cmp-total t (flat_map (triples_at m) (finite.entries whole)) ∙ ap (λ es. has triple_cmp t (flat_map (triples_at m) es)) whole_is ∙ there)
+      by : (t : Triple) (b : Bool) → has triple_cmp t (union triple_cmp m part) ≡ b → (b || has triple_cmp t (triples_at m e)) ≡ true → has triple_cmp t (union triple_cmp m all) ≡ true
+      by t true among is = part_in_all triple_cmp m triple_cmp-total part all front back e part_is all_is t among
+      by t false other is = one_in_all triple_cmp m triple_cmp-total part all front back e part_is all_is t is
 
-      by : (t : Triple) (b : Bool) → has triple_cmp t (union triple_cmp m part) ≡ b → (b || has triple_cmp t (triples_at m e)) ≡ true → has triple_cmp t (union triple_cmp m whole ++ []) ≡ true
-      by t true among is =
-          whole_has t (from_front front (e ∷ back) t
-          (ap (λ es. has triple_cmp t (flat_map (triples_at m) es)) (sym part_is) ∙ sym (has-sorted triple_cmp-total t (flat_map (triples_at m) (finite.entries part))) ∙ among))
-      by t false other is = whole_has t (from_one front back e t is)
+  -- the entities that are counted with the one more are named by all
+  named_more : (m : Meaning Triple) (y : EntityId) → has entity_cmp y (counted_with (named_by m part) e.0 (triples_at m e)) ≡ true → has entity_cmp y (named_by m all) ≡ true
+  named_more m y there =
+      by (has entity_cmp y (strangers e.0 (triples_at m e))) refl (sym (has-append entity_cmp y (strangers e.0 (triples_at m e)) (named_by m part)) ∙ there)
+    where
+      by : (b : Bool) → has entity_cmp y (strangers e.0 (triples_at m e)) ≡ b → (b || has entity_cmp y (named_by m part)) ≡ true → has entity_cmp y (named_by m all) ≡ true
+      by true own is = one_in_all entity_cmp (strangers_on m) entity_cmp_total part all front back e part_is all_is y (ap (has entity_cmp y) (named_held m e.0 e.1.held) ∙ own)
+      by false other is = part_in_all entity_cmp (strangers_on m) entity_cmp_total part all front back e part_is all_is y is
+
+  few_needs : (lean : Bool) (m : Meaning Triple) → needs lean m m part e.0 e.1.held ≤ room_with (stored_by lean m all) all []
+  few_needs false m = few_of_them m
+  few_needs true m =
+      let counted : List EntityId = counted_with (named_by m part) e.0 (triples_at m e) in
+      let some : needs_of m m part e.0 e.1.held ≤ room_with (stored_of counted m) all [] = few_of_them (stored_of counted m) in
+      let more : room_with (stored_of counted m) all [] ≤ room_with (shared_by m all) all [] = room_more counted (named_by m all) m all (named_more m) in
+      omega (arith, some, more)
+
+-- ---- where every page is mapped by one version
+
+-- the entities that the pages name are those by this version
+names_one : (v : MappingVersion) (records : Records) → named_by (meaning_by meaning (all_by v records)) records ≡ named_by (meaning v) records
+names_one v records = union-all (λ (k : MappingVersion). strangers_on (meaning k)) v records entity_cmp
+
+-- and so is the room for what is stored
+stored_one : (counted : List EntityId) (v : MappingVersion) (records : Records) (ts : List Triple)
+    → room_with (stored_of counted (meaning_by meaning (all_by v records))) records ts ≡ room_with (stored_of counted (meaning v)) records ts
+stored_one counted v records ts = ap (λ (us : List Triple). distinct (flat_map terms_of (us ++ ts))) (union-all (λ (k : MappingVersion). stored_of counted (meaning k)) v records triple_cmp)
+
+needs_one : (lean : Bool) (v : MappingVersion) (records : Records) (x : EntityId) (held : Option (Held Bytes))
+    → needs lean (meaning_by meaning (all_by v records)) (meaning v) records x held ≡ needs lean (meaning v) (meaning v) records x held
+needs_one false v records x held = ap (λ (ts : List Triple). distinct (flat_map terms_of (ts ++ triples_held (meaning v) x held))) (union-all meaning v records triple_cmp)
+needs_one true v records x held =
+    ap (λ (named : List EntityId). needs_where named (meaning_by meaning (all_by v records)) (meaning v) records x held) (names_one v records)
+    ∙ stored_one (counted_with (named_by (meaning v) records) x (triples_held (meaning v) x held)) v records
+    (triples_held (stored_of (counted_with (named_by (meaning v) records) x (triples_held (meaning v) x held)) (meaning v)) x held)
+
+room_one : (lean : Bool) (v : MappingVersion) (records : Records) → room_with (stored_by lean (meaning_by meaning (all_by v records)) records) records [] ≡ room_with (stored_by lean (meaning v) records) records []
+room_one false v records = ap (λ (ts : List Triple). distinct (flat_map terms_of (ts ++ []))) (union-all meaning v records triple_cmp)
+room_one true v records =
+    ap (λ (named : List EntityId). room_with (stored_of named (meaning_by meaning (all_by v records))) records []) (names_one v records)
+    ∙ stored_one (named_by (meaning v) records) v records []
 
 -- ---- where the line of a record stands
 
@@ -232,7 +287,7 @@ module _ (w : WorldState) (counts : Counts) (is : IsLoadable w counts) where
       ∙ ap finite.entries (sorted_map front (sorted_front front back rise))
       ∙ finite.entries-from_sorted entity_cmp front (sorted_front front back rise)
 
-  pub full_only : (room : ℕ) → IsFileOverfull room (bytes w counts is) → room < room_with (meaning_by meaning w.by_two) w.replay.played.records []
+  pub full_only : (room : Limit) → IsFileOverfull room (bytes w counts is) → room.terms < room_with (stored_by room.lean (meaning_by meaning w.by_two) w.replay.played.records) w.replay.played.records []
   full_only room full = by_item next.item refl over
     where
       loading : Loading
@@ -247,7 +302,7 @@ module _ (w : WorldState) (counts : Counts) (is : IsLoadable w counts) where
           let same : full.over.item ≡ next.item = cc in
           subst (HasNoRoomForLine full.world) same full.over.lacks.over
 
-      by_item : (item : Line) → next.item ≡ item → HasNoRoomForLine full.world item → room < room_with (meaning_by meaning w.by_two) w.replay.played.records []
+      by_item : (item : Line) → next.item ≡ item → HasNoRoomForLine full.world item → room.terms < room_with (stored_by room.lean (meaning_by meaning w.by_two) w.replay.played.records) w.replay.played.records []
       by_item (Begins h) item_is over = absurd over
       by_item (Remembered e) item_is over = absurd over
       by_item (Side entry) item_is over = absurd over
@@ -266,7 +321,7 @@ module _ (w : WorldState) (counts : Counts) (is : IsLoadable w counts) where
           there =
               leads_same unbegun (others ++ map entity_line placed.front) loading _ (subst (λ ls. Leads unbegun ls loading) placed.done_is next.lead) (lead_to placed.front ((x, r) ∷ placed.back) parts)
 
-          by_stage : (stage : Stage) → full.stage ≡ stage → room < room_with (meaning_by meaning w.by_two) w.replay.played.records []
+          by_stage : (stage : Stage) → full.stage ≡ stage → room.terms < room_with (stored_by room.lean (meaning_by meaning w.by_two) w.replay.played.records) w.replay.played.records []
           by_stage Unbegun stage_is =
               let never : unbegun ≡ at (s w counts is) _ _ = ap (λ (g : Stage). loading_of full.world g (length full.done)) (sym stage_is) ∙ there in cc
           by_stage (Ended read) stage_is =
@@ -278,14 +333,16 @@ module _ (w : WorldState) (counts : Counts) (is : IsLoadable w counts) where
               let version : full.world.mapping ≡ w.mapping = ap (λ (k : Saved). k.version) saved_is in
               let records : finite.entries full.world.replay.played.records ≡ placed.front =
               ap (λ (k : Saved). finite.entries k.state.played.records) saved_is ∙ some_records placed.front ((x, r) ∷ placed.back) parts in
-              let few : room_with (meaning w.mapping) full.world.replay.played.records (triples_held (meaning w.mapping) x r.held) ≤ room_with (meaning w.mapping) w.replay.played.records [] =
-              few_of_them (meaning w.mapping) full.world.replay.played.records w.replay.played.records placed.front placed.back (x, r) records parts in
-              let own : room_with (meaning_by meaning full.world.by_two) full.world.replay.played.records (triples_held (meaning full.world.mapping) x r.held)
-              ≡ room_with (meaning w.mapping) full.world.replay.played.records (triples_held (meaning w.mapping) x r.held) =
-              ap (λ (ids : List EntityId). room_with (meaning_by meaning ids) full.world.replay.played.records (triples_held (meaning full.world.mapping) x r.held)) full.ready.by_one
-              ∙ ap (λ (ts : List Triple). distinct (flat_map terms_of (ts ++ triples_held (meaning full.world.mapping) x r.held))) (union-all meaning full.world.mapping full.world.replay.played.records triple_cmp)
-              ∙ ap (λ (v : MappingVersion). room_with (meaning v) full.world.replay.played.records (triples_held (meaning v) x r.held)) version in
-              let whole : room_with (meaning_by meaning w.by_two) w.replay.played.records [] ≡ room_with (meaning w.mapping) w.replay.played.records [] =
-              ap (λ (ids : List EntityId). room_with (meaning_by meaning ids) w.replay.played.records []) is.by_one
-              ∙ ap (λ (ts : List Triple). distinct (flat_map terms_of (ts ++ []))) (union-all meaning w.mapping w.replay.played.records triple_cmp) in
-              omega (arith, full.limit, over, own, few, whole)
+              let few : needs room.lean (meaning w.mapping) (meaning w.mapping) full.world.replay.played.records x r.held ≤ room_with (stored_by room.lean (meaning w.mapping) w.replay.played.records) w.replay.played.records [] =
+              few_needs full.world.replay.played.records w.replay.played.records placed.front placed.back (x, r) records parts room.lean (meaning w.mapping) in
+              let same_limit : needs_now full.world x r.held ≡ needs room.lean (meaning_by meaning (all_by full.world.mapping full.world.replay.played.records)) (meaning full.world.mapping) full.world.replay.played.records x r.held =
+              λ i. needs (full.limit i).lean (meaning_by meaning (full.ready.by_one i)) (meaning full.world.mapping) full.world.replay.played.records x r.held in
+              let own : needs_now full.world x r.held ≡ needs room.lean (meaning w.mapping) (meaning w.mapping) full.world.replay.played.records x r.held =
+              same_limit
+              ∙ needs_one room.lean full.world.mapping full.world.replay.played.records x r.held
+              ∙ ap (λ (v : MappingVersion). needs room.lean (meaning v) (meaning v) full.world.replay.played.records x r.held) version in
+              let whole : room_with (stored_by room.lean (meaning_by meaning w.by_two) w.replay.played.records) w.replay.played.records []
+              ≡ room_with (stored_by room.lean (meaning w.mapping) w.replay.played.records) w.replay.played.records [] =
+              ap (λ (ids : List EntityId). room_with (stored_by room.lean (meaning_by meaning ids) w.replay.played.records) w.replay.played.records []) is.by_one
+              ∙ room_one room.lean w.mapping w.replay.played.records in
+              omega (arith, ap (λ (l : Limit). l.terms) full.limit, over, own, few, whole)

@@ -9,4 +9,4 @@ use Rattle.drill_replay.proofs.summary.rows.Goals as goal
 pub returns : goal.returns
 returns c =
     subst (λ (by_two : List EntityId). IfOk c.rows.result (λ set. set ≡ union triple_cmp (meaning_by meaning by_two) c.args.world.now.replay.played.records))
-    c.requires.1 c.rows.ensures
+    c.requires.first.1 c.rows.ensures

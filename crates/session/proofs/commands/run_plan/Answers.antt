@@ -3,7 +3,7 @@ use Rattle.std.proofs.Common.{◌≡◌, ◌∙◌, sym, ap, subst, refl, inl, i
 use Rattle.arguments.specs.declared.plan.Plan.TheVariants.{Replay, Drill, Patches, Follow, Split}
 use Rattle.arguments.specs.Options.{FollowChoices, SplitChoices}
 use Rattle.graph_routes.specs.{declared.routes.Route.Route, Routes.AreRoutesIn}
-use Rattle.world.specs.WorldState.{WorldState}
+use Rattle.world.specs.{Limit.Limit, Limit.whole, WorldState.WorldState}
 use Rattle.following.specs.Following.{follow_moment}
 use Rattle.drill_replay.specs.Playing.{IsByFirst}
 use Rattle.run_model.specs.{Moment.moment, Moment.stage, Resuming.RunEnding, Stop.stop_of}
@@ -70,7 +70,7 @@ returns-in-Drill g c = rw c.in-Drill.is (record {
       × IsByFirst c.drill.result.1 × (record c.args.ports.now { out = c.drill.new.out } ≡ record c.args.ports.now { out = c.drill.new.out }))
       same (c.drill.ensures.ending, c.drill.ensures.first, refl);
   follow = λ choices never. cc;
-  limit = inr c.drill.ensures.limit;
+  limit = inr (record { terms = ap (λ (l : Limit). l.terms) c.drill.ensures.limit.0; held = c.drill.ensures.limit.1; is = inl c.drill.ensures.limit.0 });
   unsaved = inr refl;
   further = written_on g.S.Source g.R.Revisions g.K.Sink g.F.Snapshots c.args.ports.now c.args.ports.now c.drill.new.out (none_gone g.S.Source g.R.Revisions g.K.Sink g.F.Snapshots _) c.drill.ensures.written;
 })
@@ -84,9 +84,9 @@ returns-in-Follow g c = rw c.in-Follow.is (record {
   follow = λ choices asked.
       let same : c.in-Follow.options ≡ choices = let it : Follow c.in-Follow.options ≡ Follow choices = asked in cc in
       subst (λ (x : FollowChoices). FollowEnding c.follow_records.result.0 x (follow_moment g.S.Source g.K.Sink c.args.ports.now.events c.args.ports.now.out) (follow_moment g.S.Source g.K.Sink c.follow_records.new.ports.events c.follow_records.new.ports.out)
-      × (c.follow_records.new.ports ≡ record c.args.ports.now { events = c.follow_records.new.ports.events; out = c.follow_records.new.ports.out }) × (c.follow_records.result.1 ≡ record c.args.world { limit = default_max_terms }))
+      × (c.follow_records.new.ports ≡ record c.args.ports.now { events = c.follow_records.new.ports.events; out = c.follow_records.new.ports.out }) × (c.follow_records.result.1 ≡ record c.args.world { limit = whole default_max_terms }))
       same (c.follow_records.ensures.ending, c.follow_records.ensures.others, c.follow_records.ensures.empty);
-  limit = inr (ap (λ (w : WorldState). w.limit) c.follow_records.ensures.empty, c.follow_records.ensures.held);
+  limit = inr (record { terms = ap (λ (w : WorldState). w.limit.terms) c.follow_records.ensures.empty; held = c.follow_records.ensures.held; is = inl (ap (λ (w : WorldState). w.limit) c.follow_records.ensures.empty) });
   unsaved = inr (ap (λ p. p.snapshot) c.follow_records.ensures.others);
   further = c.follow_records.ensures.further;
 })

@@ -7,7 +7,7 @@ use Rattle.session.proofs.Plans.{follow_stopped}
 use Rattle.session.proofs.records.follow_records.Goals as goal
 
 pub set_limit-requires : goal.set_limit-requires
-set_limit-requires g c = rw c.requires.world (len-empty _ _)
+set_limit-requires g c = record { records = rw c.requires.world (len-empty _ _); all = c.requires.lean }
 
 pub returns-in-Err-clause-ending : goal.returns-in-Err-clause-ending
 returns-in-Err-clause-ending g c = follow_stopped _ _ _ _ _ c.status.ensures.stops (record { why = c.in-Err.why; is = c.from.ensures; stopped = c.in-Err.ensures.err }) c.follow.ensures.taken

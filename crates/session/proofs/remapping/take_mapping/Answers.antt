@@ -2,7 +2,7 @@
 use Rattle.std.proofs.Common.{◌≡◌, ◌<◌, length, refl, sym, subst, ap, ◌∙◌, arith, Err}
 use Rattle.std.proofs.lemmas.Result.{err_from_is_err_and}
 use Rattle.splitting.specs.Graphs.{MayFollow}
-use Rattle.splitting.proofs.{Fresh.follow_same, Roomed.may_have_room_anew}
+use Rattle.splitting.proofs.{Following.may_be_fit, Fresh.follow_same, Roomed.may_have_room_anew}
 use Rattle.holders.specs.Holding.{AreHolders}
 use Rattle.world.specs.WorldState.{WorldState, stale}
 use Rattle.term_pool.specs.declared.fault.PoolFault.TheVariants.{Full, OutOfMemory}
@@ -47,8 +47,7 @@ loop-replay-preserved g c =
 
 pub follow_remapping-followed-requires-clause-fit : goal.follow_remapping-followed-requires-clause-fit
 follow_remapping-followed-requires-clause-fit g c =
-    let are = rw c.in-Ok-Some.field-0-is at c.in-Ok-Some.ensures.triples in
-    are.fit
+    may_be_fit c.loop-replay.replay-inside.graphs c.loop-replay.replay-inside.world _ _ _ _ c.loop-replay.invariant.kept.0 (rw c.in-Ok-Some.field-0-is at c.in-Ok-Some.ensures.triples)
 
 pub follow_remapping-followed-requires-clause-room : goal.follow_remapping-followed-requires-clause-room
 follow_remapping-followed-requires-clause-room g c =

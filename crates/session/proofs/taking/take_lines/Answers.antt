@@ -2,6 +2,7 @@
 use Rattle.std.proofs.Common.{◌≡◌, ◌+◌, ◌≤◌, [], ◌∷◌, ◌∙◌, refl, sym, ap, arith}
 use Rattle.std.proofs.lemmas.Result.{err_from_is_err_and}
 use Rattle.checkpoint.specs.Archive.{archive}
+use Rattle.world.specs.Limit.{Limit}
 use Rattle.run_model.specs.{Moment.Moment, Moment.Run, Moment.marks, Moment.moment, Moved.run_in}
 use Rattle.run_model.proofs.Deliveries.{rest_open}
 use Rattle.run_model.proofs.Ongoing.{delivered_on, goes_on, none_gone, read_on, saved_on}
@@ -37,6 +38,9 @@ returns-in_err-delivery-clause-err g c =
 
 pub deliver-delivered-requires-clause-open : goal.deliver-delivered-requires-clause-open
 deliver-delivered-requires-clause-open g c = rest_open _ _ _ _ _ c.loop-line.invariant.0.progress.at_rest
+
+pub deliver-delivered-requires-clause-lean : goal.deliver-delivered-requires-clause-lean
+deliver-delivered-requires-clause-lean g c = λ answers. ap (λ (l : Limit). l.lean) (c.loop-line.invariant.2.limit ∙ c.requires.limit) ∙ c.requires.lean answers
 
 pub deliver-delivered-requires-clause-number : goal.deliver-delivered-requires-clause-number
 deliver-delivered-requires-clause-number g c =

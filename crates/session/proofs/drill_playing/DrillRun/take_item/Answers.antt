@@ -1,10 +1,11 @@
 -- The deliveries of the item are taken and counted, one after the other.
-use Rattle.std.proofs.Common.{refl, length, ◌≡◌, ◌∙◌, ◌≤◌, ◌+◌, ◌*◌, ◌++◌, [], ◌∷◌, suc, take, drop, sym, subst, append-nil, arith}
+use Rattle.std.proofs.Common.{refl, ap, length, ◌≡◌, ◌∙◌, ◌≤◌, ◌+◌, ◌*◌, ◌++◌, [], ◌∷◌, suc, take, drop, sym, subst, append-nil, arith}
 use Rattle.text_output.specs.Printing.{output}
 use Rattle.drill_replay.specs.Drill.{IsSize, item_deliveries, drill}
 use Rattle.drill_replay.specs.Playing.{IsPartOf}
 use Rattle.drill_replay.proofs.{Drills.few_deliveries, Drills.part_in, Taking.cut, Taking.few_more, Taking.one_more, Taking.whole}
 use Rattle.session.specs.DrillPlaying.{HasTakenFirst}
+use Rattle.world.specs.Limit.{Limit}
 use Rattle.run_model.proofs.Deliveries.{rest_open}
 use Rattle.session.proofs.DrillPlaying.{cut_off, first_of, halted_in, leaves_at_rest, leaves_halted, next_of, next_taken, part_at_rest, silent}
 use Rattle.session.proofs.drill_playing.DrillRun.take_item.Goals as goal
@@ -29,6 +30,9 @@ loop-delivery-init g c = record {
 
 pub deliver-requires-clause-open : goal.deliver-requires-clause-open
 deliver-requires-clause-open g c = rest_open _ _ _ _ _ c.loop-delivery.invariant.taken.at_rest
+
+pub deliver-requires-clause-lean : goal.deliver-requires-clause-lean
+deliver-requires-clause-lean g c = λ answers. ap (λ (l : Limit). l.lean) c.loop-delivery.invariant.taken.limit
 
 -- there are at most six deliveries of an item, and at most 200,000 items
 pub add-requires : goal.add-requires

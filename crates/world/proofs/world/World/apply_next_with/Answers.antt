@@ -1,22 +1,19 @@
 -- An application keeps what is held in step with the side output, and what it stores has room.
-use Rattle.std.proofs.Common.{◌≤◌, List, Err, option_copied, ap, subst, sym, ◌∙◌}
-use Rattle.rdf_term.specs.declared.triple.Triple.{Triple}
+use Rattle.std.proofs.Common.{◌≤◌, Err, option_copied, ap, subst, sym, ◌∙◌}
 use Rattle.entity_json.specs.Document.{unfit_of}
 use Rattle.entity_model.specs.declared.id.EntityId.{EntityId}
-use Rattle.replay_model.specs.{Entries.HoldsUnlessOpen, Play.Played, Records.record_of, Replies.HoldsDocument, Union.triples_held}
-use Rattle.replay_model.specs.Versions.{meaning_by}
+use Rattle.replay_model.specs.{Entries.HoldsUnlessOpen, Play.Played, Records.record_of, Replies.HoldsDocument}
 use Rattle.replay_model.proofs.{Documents.documents-apply, Settled.holds-apply}
-use Rattle.fetched_pages.specs.{Fetched.reply_or_any, Meaning.meaning}
-use Rattle.holders.specs.Roomed.{room_with}
-use Rattle.world.specs.WorldState.{played_of}
+use Rattle.fetched_pages.specs.Fetched.{reply_or_any}
+use Rattle.world.specs.{Held.HeldState, Held.held_in, Held.needs_in, WorldState.played_of}
 use Rattle.fetched_pages.proofs.Fit.{reply_gives}
-use Rattle.world.proofs.{DueEvent.overfull, DueEvent.store_full, DueEvent.store_refused, Giving.page_given, Giving.stored_page}
+use Rattle.world.proofs.{DueEvent.overfull, DueEvent.reply_judged, DueEvent.store_full, DueEvent.store_refused, Giving.of_stored, Giving.page_given}
 use Rattle.world.proofs.Shown.{outcome_calls, outcome_shown}
 use Rattle.world.proofs.world.World.apply_next_with.Goals as goal
 
 pub invariant_of-self : goal.invariant_of-self
 invariant_of-self g c =
-    let was : Played = played_of c.self.inside.holdings c.self.inside.side.entries in (
+    let was : Played = played_of (held_in c.self.inside.holdings) c.self.inside.side.entries in (
       subst (λ (p : Played). HoldsUnlessOpen p) (sym c.in-Ok-apply.ensures.applied) (holds-apply (λ _ _. reply_or_any c.in-Ok.reply) was c.in-Some.event c.self.invariant.0),
       c.facts.ensures.room,
       c.facts.ensures.holders,
@@ -24,31 +21,35 @@ invariant_of-self g c =
           (documents-apply unfit_of c.in-Some.event (reply_or_any c.in-Ok.reply) (reply_gives _ _ c.in-Some.event.entity _ (reply_or_any c.in-Ok.reply) c.in-Ok.ensures.reply) was c.self.invariant.3),
     )
 
+pub apply-requires-clause-document : goal.apply-requires-clause-document
+apply-requires-clause-document g c = reply_judged _ _ c.in-Some.event.entity _ (reply_or_any c.in-Ok.reply) c.in-Ok.ensures.reply
+
 pub returns-in-Ok-apply-clause-limit : goal.returns-in-Ok-apply-clause-limit
 returns-in-Ok-apply-clause-limit g c = rw (← c.self.view_is) c.apply.ensures.limit
 
 pub returns-in-Ok-apply-clause-within : goal.returns-in-Ok-apply-clause-within
 returns-in-Ok-apply-clause-within g c = rw (← c.self.view_is) (λ stored.
-    subst (λ (ts : List Triple). room_with (meaning_by meaning c.self.inside.holdings.by_two) c.self.inside.holdings.records ts ≤ c.self.inside.holdings.limit)
-    (sym (ap (λ (p : Played). triples_held (meaning c.self.inside.mapping) c.in-Some.event.entity (record_of p.records c.in-Some.event.entity).held) c.in-Ok-apply.ensures.applied
-    ∙ stored_page c.self.inside.mapping c.self.inside.holdings.records c.in-Some.event (reply_or_any c.in-Ok.reply) c.in-Ok-apply.effect.outcome c.in-Ok-apply.ensures.outcome stored))
-    c.in-Ok-apply.ensures.within)
+    let was : HeldState = held_in c.self.inside.holdings in
+    subst (λ (p : Played). needs_in was c.self.inside.mapping c.in-Some.event.entity (record_of p.records c.in-Some.event.entity).held ≤ was.limit.terms)
+    (sym c.in-Ok-apply.ensures.applied)
+    (of_stored (λ held. needs_in was c.self.inside.mapping c.in-Some.event.entity held ≤ was.limit.terms) was.records c.in-Some.event (reply_or_any c.in-Ok.reply) c.in-Ok-apply.effect.outcome
+    c.in-Ok-apply.ensures.outcome stored c.in-Ok-apply.ensures.within))
 
 pub returns-in-Ok-apply-clause-change : goal.returns-in-Ok-apply-clause-change
 returns-in-Ok-apply-clause-change g c = rw (← c.self.view_is) c.in-Ok-apply.ensures.change
 
 pub returns-in-Ok-apply-clause-routed : goal.returns-in-Ok-apply-clause-routed
 returns-in-Ok-apply-clause-routed g c = rw (← c.self.view_is)
-    (page_given (option_copied c.args.routes) c.self.inside.holdings.by_two c.self.inside.mapping (played_of c.self.inside.holdings c.self.inside.side.entries) (played_of c.apply.new.holdings c.apply.new.side.entries) c.in-Some.event c.in-Ok.reply
+    (page_given (option_copied c.args.routes) (held_in c.self.inside.holdings).by_two c.self.inside.mapping (played_of (held_in c.self.inside.holdings) c.self.inside.side.entries) (played_of (held_in c.apply.new.holdings) c.apply.new.side.entries) c.in-Some.event c.in-Ok.reply
     c.in-Ok-apply.effect.outcome c.in-Ok-apply.effect.routed (rw (← c.self.view_is) at c.in-Ok.ensures.meant) c.in-Ok.ensures.routed c.in-Ok-apply.ensures.applied c.in-Ok-apply.ensures.outcome c.in-Ok-apply.ensures.routed)
 
 pub returns-in-Ok-apply-clause-shown : goal.returns-in-Ok-apply-clause-shown
 returns-in-Ok-apply-clause-shown g c =
-    outcome_shown c.self.inside.holdings.records c.in-Some.event c.in-Ok-apply.effect.outcome c.in-Ok.reply c.in-Ok-apply.ensures.outcome (rw (← c.self.view_is) at c.in-Ok.ensures.wanted) _ _ _ _ c.in-Ok.ensures.shown
+    outcome_shown (held_in c.self.inside.holdings).records c.in-Some.event c.in-Ok-apply.effect.outcome c.in-Ok.reply c.in-Ok-apply.ensures.outcome (rw (← c.self.view_is) at c.in-Ok.ensures.wanted) _ _ _ _ c.in-Ok.ensures.shown
 
 pub returns-in-Ok-apply-clause-calls : goal.returns-in-Ok-apply-clause-calls
 returns-in-Ok-apply-clause-calls g c =
-    outcome_calls c.self.inside.holdings.records c.in-Some.event c.in-Ok-apply.effect.outcome c.in-Ok.reply c.in-Ok-apply.ensures.outcome (rw (← c.self.view_is) at c.in-Ok.ensures.wanted) _ _ c.in-Ok.ensures.calls
+    outcome_calls (held_in c.self.inside.holdings).records c.in-Some.event c.in-Ok-apply.effect.outcome c.in-Ok.reply c.in-Ok-apply.ensures.outcome (rw (← c.self.view_is) at c.in-Ok.ensures.wanted) _ _ c.in-Ok.ensures.calls
 
 pub returns-in-Ok-apply-clause-applied : goal.returns-in-Ok-apply-clause-applied
 returns-in-Ok-apply-clause-applied g c = rw (← c.self.view_is) (record {
@@ -77,7 +78,7 @@ returns-in-Err-clause-err g c = rw (← c.self.view_is) (λ i. record {
 })
 
 pub returns-in-Err-clause-full : goal.returns-in-Err-clause-full
-returns-in-Err-clause-full g c = rw (← c.self.view_is) (λ is. overfull _ _ c.self.inside.holdings c.self.inside.buffer c.self.inside.side.entries c.self.inside.mapping c.in-Some.event c.in-Ok.reply
+returns-in-Err-clause-full g c = rw (← c.self.view_is) (λ is. overfull _ _ (held_in c.self.inside.holdings) c.self.inside.buffer c.self.inside.side.entries c.self.inside.mapping c.in-Some.event c.in-Ok.reply
     (sym c.least_due.ensures.due ∙ c.in-Some.is) (rw (← c.self.view_is) at c.in-Ok.ensures.wanted) (rw (← c.self.view_is) at c.in-Ok.ensures.reply)
     (c.in-Err.ensures.full (ap (λ f. Err f) (store_full _ _ (ap (λ f. Err f) c.from.ensures) is))))
 

@@ -7,7 +7,7 @@ use Rattle.world.proofs.Fit.{union_fit}
 use Rattle.world.proofs.world.World.export.Goals as goal
 
 pub returns-clause-value : goal.returns-clause-value
-returns-clause-value c = rw (← c.self.view_is, ← c.store.ensures.triples) c.all.ensures.rows
+returns-clause-value c = rw (← c.self.view_is, ← c.whole.ensures.by_two, ← c.whole.ensures.records, ← c.store.ensures.triples) c.all.ensures.rows
 
 pub returns-clause-fit : goal.returns-clause-fit
 returns-clause-fit c =

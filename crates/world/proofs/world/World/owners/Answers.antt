@@ -3,4 +3,4 @@ use Rattle.std.proofs.Common.{◌∙◌}
 use Rattle.world.proofs.world.World.owners.Goals as goal
 
 pub returns : goal.returns
-returns c = rw (← c.self.view_is) (c.owners.ensures.count ∙ c.store.ensures.counts c.args.triple.now)
+returns c = rw (← c.self.view_is, ← c.whole.ensures.by_two, ← c.whole.ensures.records) (c.owners.ensures.count ∙ c.store.ensures.counts c.args.triple.now)

@@ -2,4 +2,4 @@
 use Rattle.world.proofs.world.World.rows.Goals as goal
 
 pub returns : goal.returns
-returns c = rw (← c.self.view_is, ← c.store.ensures.triples) c.rows.ensures.rows
+returns c = rw (← c.self.view_is, ← c.whole.ensures.by_two, ← c.whole.ensures.records, ← c.store.ensures.triples) c.rows.ensures.rows

@@ -5,7 +5,7 @@ use Rattle.snapshot.specs.declared.line.Line.TheVariants.{Entity}
 use Rattle.text_output.proofs.Parts.{text_more}
 use Rattle.checkpoint.specs.{Archive.archive, Saved.ended}
 use Rattle.world_snapshots.proofs.Written.{fails_then, text_written, writes_nothing}
-use Rattle.world_snapshots.proofs.saving.write_records.Goals as goal
+use Rattle.world_snapshots.proofs.saving.write_each.Goals as goal
 
 pub loop-id-init : goal.loop-id-init
 loop-id-init g c = writes_nothing (archive g.F.Snapshots c.args.out.now)
