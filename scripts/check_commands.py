@@ -37,13 +37,12 @@ PASSED_OVER = (
     (r"scripts/check(\.sh|_commands\.py)", "runs this check"),
     (r"examples/\w+/run\.sh", "scripts/check.sh runs it"),
     (r"examples/many/stream\.sh", "needs Redis, and takes minutes"),
-    (r"/usr/bin/python3 -m pytest mirror/tests", "takes minutes; scripts/check.sh runs a part of it"),
     (r"mirror/tests/soak\.py .*", "takes as many minutes as it says"),
     (r"apt-get .*", "needs root and the network"),
     (r"(useradd|sudo|cp /opt/wdq/mirror/systemd/\S+) .*", "needs root"),
     (r"systemctl .*", "needs systemd"),
     (r"isql-vt .*", "needs Virtuoso"),
-    (r"scripts/package\.sh.*|scripts/(try_packing|memory)\.py.*|mirror/tests/latency\.py .*", "takes minutes"),
+    (r"scripts/package\.sh.*|scripts/(try_packing|lean_streams|memory)\.py.*|mirror/tests/latency\.py .*", "takes minutes"),
     (r"scripts/(library|page)\.sh.*", "builds for minutes; scripts/check.sh tries what they build"),
 )
 # What a command has that isn't here, and what is tried in its place.

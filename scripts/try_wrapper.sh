@@ -193,6 +193,13 @@ drill --export|--export is an option of replay and follow
 drill --max-bytes 5|--max-bytes is an option of replay, patches, follow and split
 patch --from pages|'patch' is no command; did you mean patches?
 patches --side|--side is an option of replay
+patches --lean --lean|--lean is given twice
+patches --lean=yes|--lean takes no value
+patches --lea|'--lea' is no option of patches; did you mean --lean?
+replay --lean|--lean is an option of patches
+split --route people:Q5 --lean|--lean is an option of patches
+follow --lean|--lean is an option of patches
+drill --size 5 --lean|--lean is an option of patches
 patches --max-byte 5|'--max-byte' is no option of patches; did you mean --max-bytes?
 patches --max-bytes 4294967296|--max-bytes takes a number from 0 to 4294967295, in digits
 patches --max-terms 0|--max-terms takes a number from 1 to 4294967295
@@ -278,7 +285,7 @@ for words in '' 'replay --help'; do
 done
 in_terminal "'$checkout/wdq' replay --max-bytes 1099511627776 --max-terms 4294967295 --horizon 0 --from x=y < /dev/null"
 shows 'words without a fault' $'wdq: words not understood\n\nwdq '
-in_terminal "'$checkout/wdq' patches --max-bytes 4294967295 --max-terms=4294967295 --horizon 0 --from pages < /dev/null"
+in_terminal "'$checkout/wdq' patches --max-bytes 4294967295 --max-terms=4294967295 --lean --horizon 0 --from pages < /dev/null"
 shows 'words of patches without a fault' $'wdq: words not understood\n\nwdq '
 in_terminal "'$checkout/wdq' split --route 'people:Q5;places:Q515,Q532' --max-bytes 1099511627776 --from pages < /dev/null"
 shows 'words of split without a fault' $'wdq: words not understood\n\nwdq '

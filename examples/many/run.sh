@@ -42,6 +42,18 @@ sort -m -u "$work"/export-?.txt > "$work/merged.txt"
 awk '/^# export/ { is_export = 1; next } is_export' "$work/whole.txt" | grep -v '^#' | cmp -s - "$work/merged.txt"
 told "the exports of 3 parts, routed by jq and merged by sort" $?
 
+# Patch streams of the three parts, which lean processes print byte for byte alike; followed and merged they give all triples.
+alike=0
+for part in 0 1 2; do
+  "$wdq" patches --from "$work/pages" < "$work/part-$part.jsonl" > "$work/records-$part.txt"
+  "$wdq" patches --lean --from "$work/pages" < "$work/part-$part.jsonl" > "$work/lean-$part.txt"
+  cmp -s "$work/records-$part.txt" "$work/lean-$part.txt" || alike=1
+  "$wdq" follow --export < "$work/lean-$part.txt" | grep -v '^#' > "$work/graph-$part.txt"
+done
+told "the records of 3 parts by --lean" $alike
+sort -m -u "$work"/graph-?.txt | cmp -s - "$work/merged.txt"
+told "the triples of these records, followed and merged" $?
+
 /usr/bin/python3 -c 'import distributed' 2>/dev/null || { echo "passed over: the steps with Dask, python3-distributed is missing"; exit $failed; }
 
 for parts in 1 3 8; do

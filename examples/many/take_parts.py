@@ -2,7 +2,7 @@
 """Takes parts of a stream, one after the other: a process that any number of machines run side by side.
 
 The events of part K are the entries of the Redis stream `events:K`, each with one line. Whoever holds the lease `owner:K` reads the next
-lines, gives them to `wdq patches`, which goes on from the part's snapshot, and adds the records to the stream `records:K`. A thread renews
+lines, gives them to `wdq patches --lean`, which goes on from the part's snapshot, and adds the records to the stream `records:K`. A thread renews
 the lease, also while wdq runs. The lease of a process that died ends, so another process takes the part over and goes on from its snapshot.
 
 A step's folder has the snapshot and the records that led to it, and its name is the id of the last entry that it knows, so snapshot,
@@ -129,7 +129,7 @@ class Part:
         """Goes on from a step's snapshot over these lines, and gives the new snapshot its name, with its records."""
         beside = self.folder / f"{offset}.{OWNER}"
         beside.mkdir()
-        command = [self.given.program, "patches", "--from", self.given.pages, "--save", str(beside / "snapshot")]
+        command = [self.given.program, "patches", "--lean", "--from", self.given.pages, "--save", str(beside / "snapshot")]
         command += ["--resume", str(before / "snapshot")] if before else []
         try:
             with open(beside / "records", "wb") as records:
