@@ -1,6 +1,7 @@
 pub mod Again
 pub mod Along
 pub mod ByRank
+pub mod Compared
 pub mod Costs
 pub mod Differing
 pub mod Distinct

@@ -5,12 +5,13 @@
 //! in the triples of one owner, whose keys `finding` finds, and `releasing` takes them away. The lists of an owner's keys are those of the
 //! crate `slot_keys`. `matching` has the slots of a triple and those that a pattern wants. `rows` finds the triples that agree with a
 //! pattern, as slices of their texts, and `ranking` puts all triples in order; `reading` reads triples back from these. `lines` has the
-//! lines of the triples with one owner.
+//! lines of the triples with one owner. `comparing` has the order of texts, which all these and the crates above compare by.
 #![tactic(auto)]
 
 mod catalog;
 mod changing;
 mod coming;
+mod comparing;
 mod finding;
 mod interning;
 mod lines;
@@ -22,6 +23,7 @@ mod rows;
 
 pub use catalog::Catalog;
 pub use coming::Swap;
+pub use comparing::compare_texts;
 pub use interning::Hints;
-pub use lines::TripleLines;
+pub use lines::{TripleLines, line_size};
 pub use rows::Rows;

@@ -1,23 +1,32 @@
 // The triples that have one owner: their lines, and whether there is one.
 
-ghost use Rattle.std.specs.Prelude.{◌≡◌, true, length, nat_lt, IfOk};
+ghost use Rattle.std.specs.Prelude.{◌≡◌, ◌<◌, ◌^◌, true, length, nat_lt, IfOk};
 ghost use Rattle.std.specs.FinMap as map;
 ghost use Rattle.sorted_sets.specs.Rising.{IsRising, has, sorted};
 ghost use Rattle.rdf_term.specs.Order.{triple_cmp};
 ghost use Rattle.slot_keys.specs.{declared.key.Key.Key as TheKey, Keys.key_cmp};
-ghost use Rattle.triple_catalog.specs.{Costs.Costs, Lines.AreLinesOf, Lines.sole, Moves.triples_at, Stored.IsStored, Stored.is_key};
+ghost use Rattle.triple_catalog.specs.{Costs.Costs, Lines.AreLinesOf, Lines.sole, Moves.triples_at, Rows.line_of, Stored.IsStored, Stored.is_key};
 
 use crate::catalog::Catalog;
 use comparison_steps::StepCounter;
 use rdf_term::OutOfMemory;
 use slot_keys::{Key, find_from};
 use text_region::Region;
+use triple_texts::TripleText;
 
 /// The lines of triples in rising order, each with its LF, and the number of the triples.
 #[derive(Drop)]
 pub struct TripleLines {
     pub count: usize,
     pub text: Vec<u8>,
+}
+
+/// How many bytes the line of a triple takes by its texts, its LF included, as far as a number counts them.
+pub fn line_size(texts: &TripleText<'_>) -> usize
+    ensures { length (line_of texts.now) < 2 ^ 64 → result ≡ length (line_of texts.now) }
+{
+    let named = texts.subject.len().saturating_add(texts.predicate.len());
+    named.saturating_add(texts.object.len()).saturating_add(5)
 }
 
 impl Catalog {

@@ -2,17 +2,18 @@
 
 ghost use Rattle.std.specs.Prelude.{◌≡◌, ◌+◌, ◌<◌, ◌≤◌, ◌++◌, ◌∷◌, [], true, length, slice_get, map as mapped, IfOk, IfSome, OnOk, OnErr};
 ghost use Rattle.std.specs.FinMap as map;
-ghost use Rattle.std.specs.{List.All, List.Sorted.IsPermutation, List.Sorted.IsSorted, Ordering.ordering_then};
+ghost use Rattle.std.specs.{List.All, List.Sorted.IsPermutation, List.Sorted.IsSorted};
 ghost use Rattle.sorted_sets.specs.Rising.{IsRising, has, sorted};
 ghost use Rattle.comparison_steps.specs.Steps.{WithinSteps};
-ghost use Rattle.rdf_term.specs.{Append.Appends, Order.bytes_cmp, Order.triple_cmp, Pattern.rows, Text.triple_text};
+ghost use Rattle.rdf_term.specs.{Append.Appends, Order.triple_cmp, Pattern.rows, Text.triple_text};
 ghost use Rattle.slot_keys.specs.{declared.key.Key.Key as TheKey, Keys.key_cmp};
 ghost use Rattle.triple_catalog.specs.{Moves.triples_at, Rows.line_of, Rows.text_cmp};
 ghost use Rattle.triple_catalog.specs.Slots.{HasCanonicalTexts, HasTexts, triple_at, triple_of};
 ghost use Rattle.triple_catalog.specs.{Stored.IsStored, Stored.counts_in, Stored.is_key, Lines.AreLinesOf};
 
 use crate::catalog::Catalog;
-use crate::lines::TripleLines;
+use crate::comparing::compare_rows;
+use crate::lines::{TripleLines, line_size};
 use crate::ranking::Ranked;
 use crate::reading::read_row;
 use comparison_steps::{StepCounter, Uncounted};
@@ -20,7 +21,6 @@ use rdf_term::{List, OutOfMemory, Pattern, TripleSet};
 use slot_index::SlotPattern;
 use slot_keys::Key;
 use std::alloc::Global;
-use std::cmp::Ordering;
 use std::marker::Model;
 use term_pool::Slot;
 use text_region::Region;
@@ -91,16 +91,25 @@ impl<'a> Rows<'a> {
         write_row(&self.row(index), out)
     }
 
-    /// The lines of the triples, in their order.
+    /// The lines of the triples, in their order. The memory that they take is asked for at once.
     pub fn lines(&self, alloc: Global) -> Result<TripleLines, OutOfMemory>
         ensures { IfOk result (λ lines. AreLinesOf lines self.now) }
     {
-        let mut text = Vec::new(alloc);
+        let mut text = Vec::with_capacity(alloc, self.size())?;
         let count = self.len();
         for index in 0..count {
             self.write(index, &mut text)?;
         }
         Ok(TripleLines { count, text })
+    }
+
+    // How many bytes the lines take, as far as a number counts them.
+    fn size(&self) -> usize {
+        let mut size = 0;
+        for index in 0..self.count() {
+            size = line_size(&self.row(index)).saturating_add(size);
+        }
+        size
     }
 
     /// The triples in memory of their own.
@@ -216,27 +225,7 @@ fn sort_rows(rows: &mut Vec<TripleText<'_>>)
     ensures same { IsPermutation rows.old.items rows.new.items }
     ensures sorted { IsSorted text_cmp rows.new.items }
 {
-    rows.sort_unstable_by(|a, b| compare(a, b));
-}
-
-// The order of two triples by the texts of their terms.
-fn compare(a: &TripleText<'_>, b: &TripleText<'_>) -> Ordering
-    ensures { result ≡ text_cmp a.now b.now }
-{
-    match a.subject.cmp(b.subject) {
-        Ordering::Equal => compare_rest(a, b),
-        decided => decided,
-    }
-}
-
-// The order by the predicates, then by the objects.
-fn compare_rest(a: &TripleText<'_>, b: &TripleText<'_>) -> Ordering
-    ensures { result ≡ ordering_then (bytes_cmp a.now.predicate.now b.now.predicate.now) (bytes_cmp a.now.object.now b.now.object.now) }
-{
-    match a.predicate.cmp(b.predicate) {
-        Ordering::Equal => a.object.cmp(b.object),
-        decided => decided,
-    }
+    rows.sort_unstable_by(|a, b| compare_rows(a, b));
 }
 
 // Appends the line of a triple, its LF included.
@@ -266,13 +255,22 @@ fn append_row(row: &TripleText<'_>, out: &mut Vec<u8>) -> Result<(), OutOfMemory
     append_bytes(b".\n", out)
 }
 
-// Appends a text and a space.
+// Appends a text and a space. The space is pushed, which costs less than a copy.
 #[tactic(auto, using(rdf_term::proofs::Appending::still_front, std::proofs::lemmas::List::append_assoc))]
 fn append_spaced(text: &[u8], out: &mut Vec<u8>) -> Result<(), OutOfMemory>
     ensures { Appends out.old.items out.new.items (text.now ++ 32 ∷ []) result }
 {
     append_bytes(text, out)?;
-    append_bytes(b" ", out)
+    append_byte(b' ', out)
+}
+
+// Appends a byte.
+#[inline(always)]
+fn append_byte(byte: u8, out: &mut Vec<u8>) -> Result<(), OutOfMemory>
+    ensures { Appends out.old.items out.new.items (byte ∷ []) result }
+{
+    out.push(byte)?;
+    Ok(())
 }
 
 // Appends bytes.

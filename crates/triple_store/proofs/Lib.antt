@@ -19,3 +19,4 @@ pub mod Stocked
 pub mod Timed
 pub mod Unchanged
 pub mod Whole
+pub mod Without

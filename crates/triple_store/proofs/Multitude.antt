@@ -80,7 +80,7 @@ IsRising-counted (k ∷ keys) (n ∷ counts) h = at (nat_lt 0 n) (IsRising-count
 
 module _ (st : Catalog) (r : Texts) (stored : IsStored st r) where
   -- no two of them have one triple
-  once : (keys : List Key) → IsRising key_cmp keys → ((key : Key) → has key_cmp key keys ≡ true → is_key st key ≡ true) → (t : Triple) → times t (triples_at st r keys) ≤ 1
+  pub once : (keys : List Key) → IsRising key_cmp keys → ((key : Key) → has key_cmp key keys ≡ true → is_key st key ≡ true) → (t : Triple) → times t (triples_at st r keys) ≤ 1
   once [] rises there t = omega arith
   once (k ∷ keys) rises there t = at (eq_by_cmp triple_cmp t (triple_at st.pool r k)) refl (once keys rises.1 (λ key is. there key (or_true (eq_by_cmp key_cmp key k) _ is)) t)
     where

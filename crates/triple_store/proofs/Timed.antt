@@ -1,11 +1,11 @@
 -- How many times triples come, one triple after another.
-use Rattle.std.proofs.Common.{◌≡◌, ◌≢◌, ℕ, zero, suc, ◌+◌, ◌<◌, ◌≤◌, true, false, cond, List, [], ◌∷◌, ◌++◌, length, take, get_or, is_eq, ⊎_elim, sym, ◌∙◌, ap, subst, arith}
+use Rattle.std.proofs.Common.{◌≡◌, ◌≢◌, ℕ, zero, suc, ◌+◌, ◌<◌, ◌≤◌, Bool, true, false, cond, ◌||◌, List, [], ◌∷◌, ◌++◌, length, take, get_or, is_eq, ⊎_elim, refl, sym, ◌∙◌, ap, subst, arith, true≢false}
 use Rattle.std.specs.Prelude.{IfSome, slice_get, set}
 use Rattle.std.specs.Ordering.{eq_by_cmp}
 use Rattle.std.proofs.{lemmas.List.get_or-set_other, lemmas.List.get_or-set_same, lemmas.List.length-set, lemmas.List.Sums.sum_by_push}
 use Rattle.std.proofs.{lemmas.Bool.cases_eq, lemmas.Cmp.tied_itself}
 use Rattle.sorted_sets.specs.Rising.{IsRising, has}
-use Rattle.sorted_sets.proofs.Bools.{equal}
+use Rattle.sorted_sets.proofs.{Bools.equal, Bools.or_true, Rising.has-append}
 use Rattle.rdf_term.specs.{declared.triple.Triple.Triple, Order.triple_cmp, Order.triple_cmp-total}
 use Rattle.rdf_term.proofs.Texts.{triple_cmp-IsAntisymmetric}
 use Rattle.triple_texts.specs.{declared.triple_text.TripleText.TripleText, Texts.IsTextOf}
@@ -15,7 +15,7 @@ use Rattle.slot_keys.specs.{declared.key.Key.Key, Keys.key_cmp, Keys.key_cmp-tot
 use Rattle.slot_keys.proofs.Lists.{has_at, never, other_at}
 use Rattle.triple_catalog.specs.{declared.catalog.Catalog.Catalog, Slots.HasTexts, Slots.HasTriple, Slots.triple_of}
 use Rattle.triple_catalog.specs.Stored.{HasKey, IsStored, is_key}
-use Rattle.triple_store.specs.Times.{AddTimes, AreTimesOf, Exceeds, times, triple_of_key}
+use Rattle.triple_store.specs.Times.{AddTimes, AreLeftWithout, AreTimesOf, Exceeds, times, triple_of_key}
 use Rattle.triple_store.proofs.Becoming.{none_times, some_times, times-cons}
 use Rattle.triple_catalog.proofs.{Listed.row, Live.key_same, Live.tells, Standing.stored_key, Standing.texts_triple, Standing.triple_texts}
 
@@ -28,6 +28,14 @@ times-take t (suc n) (u ∷ ts) = omega (arith, times-cons t u (take n ts), time
 -- one triple more
 times-push : (t u : Triple) (ts : List Triple) → times t (ts ++ u ∷ []) ≡ times t ts + cond (eq_by_cmp triple_cmp t u) 1 0
 times-push t u ts = sum_by_push (λ v. cond (eq_by_cmp triple_cmp t v) 1 0) ts u
+
+plain_or : (b : Bool) → (b || false) ≡ b
+plain_or true = refl
+plain_or false = refl
+
+-- whether a list has a triple, where one triple more is in it
+has-push : (t u : Triple) (ts : List Triple) → has triple_cmp t (ts ++ u ∷ []) ≡ (has triple_cmp t ts || eq_by_cmp triple_cmp t u)
+has-push t u ts = has-append triple_cmp t ts (u ∷ []) ∙ ap (λ b. has triple_cmp t ts || b) (plain_or (eq_by_cmp triple_cmp t u))
 
 -- the next triple of a list, whose key is at an index
 module _ (st : Catalog) (r : Texts) (stored : IsStored st r) (keys : List Key) (rises : IsRising key_cmp keys) (all : (key : Key) → has key_cmp key keys ≡ true → is_key st key ≡ true)
@@ -76,6 +84,27 @@ module _ (st : Catalog) (r : Texts) (stored : IsStored st r) (keys : List Key) (
             (cases_eq index place);
       }
 
+  -- its key counts no longer
+  pub without-key : (left : List ℕ) → length left ≡ length keys → AreLeftWithout st r keys left (take i triples) → AreLeftWithout st r keys (set left place 0) (take (i + 1) triples)
+  without-key left long h = record {
+    as_many = length-set left place 0 ∙ h.as_many;
+    counted = λ index other within. ⊎_elim
+        (λ same.
+        ap (λ k. get_or (set left place 0) k 0) same ∙ get_or-set_same left place 0 0 (omega (arith, long, there))
+        ∙ sym (ap (λ b. cond b 0 1) (next index other
+        ∙ or_true (has triple_cmp (triple_of_key st r keys index other) (take i triples)) _
+        (subst (λ (k : ℕ). eq_by_cmp triple_cmp (triple_of_key st r keys k other) (triple_of texts) ≡ true) (sym same) (here other)))))
+        (λ differ.
+        get_or-set_other left place index 0 0 differ ∙ h.counted index other within
+        ∙ sym (ap (λ b. cond b 0 1) (next index other ∙ ap (λ b. has triple_cmp (triple_of_key st r keys index other) (take i triples) || b) (elsewhere index other within differ)
+        ∙ plain_or (has triple_cmp (triple_of_key st r keys index other) (take i triples)))))
+        (cases_eq index place);
+  }
+    where
+      next : (index : ℕ) (other : Key) → has triple_cmp (triple_of_key st r keys index other) (take (i + 1) triples)
+          ≡ (has triple_cmp (triple_of_key st r keys index other) (take i triples) || eq_by_cmp triple_cmp (triple_of_key st r keys index other) (triple_of texts))
+      next index other = ap (has triple_cmp (triple_of_key st r keys index other)) (row triples i texts low at).more ∙ has-push (triple_of_key st r keys index other) (triple_of texts) (take i triples)
+
   -- which may be once too often
   pub exceeds_at : (old left : List ℕ) (before : List Triple) → get_or left place 0 ≡ 0 → AddTimes st r keys left old (take i triples) → AreTimesOf st r keys old before → Exceeds triples before
   exceeds_at old left before none h its_times =
@@ -100,4 +129,23 @@ exceeds_other st r keys counts before gone i texts low at none its_times =
             let one : (key : Key) × HasKey st r key (triple_of texts) × (has key_cmp key keys ≡ true) = its_times.keys_of.all (triple_of texts) is in
             none one.0 one.2 (triple_texts st.pool r one.0 texts (triple_of texts) its.is one.1.has))),
       );
+    }
+
+-- a triple that has none of the keys changes nothing of what is left
+pub without-none : (st : Catalog) (r : Texts) → IsStored st r → (keys : List Key) → ((key : Key) → has key_cmp key keys ≡ true → is_key st key ≡ true) → (left : List ℕ) (gone : List Triple) (i : ℕ) (texts : TripleText)
+    → i < length gone → IfSome (slice_get gone i) (IsTextOf texts) → ((key : Key) → has key_cmp key keys ≡ true → HasTexts st.pool r key texts → ⊥)
+    → AreLeftWithout st r keys left (take i gone) → AreLeftWithout st r keys left (take (i + 1) gone)
+without-none st r stored keys all left gone i texts low at none h =
+    let its = row gone i texts low at in
+    record {
+      as_many = h.as_many;
+      counted = λ index other within.
+          let key = get_or keys index other in
+          let t = triple_of_key st r keys index other in
+          let among : has key_cmp key keys ≡ true = has_at key_cmp-total keys index other within in
+          let not_it : eq_by_cmp triple_cmp t (triple_of texts) ≡ false = never (eq_by_cmp triple_cmp t (triple_of texts)) (λ e.
+          let same : t ≡ triple_of texts = triple_cmp-IsAntisymmetric t (triple_of texts) (equal _ e) in
+          none key among (triple_texts st.pool r key texts (triple_of texts) its.is (subst (HasTriple st.pool r key) same (stored_key st r stored key (all key among)).has))) in
+          h.counted index other within
+          ∙ sym (ap (λ b. cond b 0 1) (ap (has triple_cmp t) its.more ∙ has-push t (triple_of texts) (take i gone) ∙ ap (λ b. has triple_cmp t (take i gone) || b) not_it ∙ plain_or (has triple_cmp t (take i gone))));
     }

@@ -1,5 +1,5 @@
 -- How many times each triple of an owner comes: several parts of what it has may give one triple.
-use Rattle.std.specs.Prelude.{◌≡◌, ◌+◌, ◌<◌, ◌≤◌, false, ℕ, List, length, get_or, count_by}
+use Rattle.std.specs.Prelude.{◌≡◌, ◌+◌, ◌<◌, ◌≤◌, false, ℕ, cond, List, length, get_or, count_by}
 use Rattle.std.specs.Ordering.{eq_by_cmp}
 use Rattle.sorted_sets.specs.Rising.{has}
 use Rattle.rdf_term.specs.{declared.triple.Triple.Triple, Order.triple_cmp}
@@ -25,6 +25,11 @@ pub record AreTimesOf (store : Catalog) (texts : Texts) (keys : List Key) (count
 pub record AddTimes (store : Catalog) (texts : Texts) (keys : List Key) (old new : List ℕ) (triples : List Triple) : Type 0 where
   pub as_many : length new ≡ length old
   pub counted : (index : ℕ) (other : Key) → index < length keys → get_or new index 0 ≡ get_or old index 0 + times (triple_of_key store texts keys index other) triples
+
+-- each key counts once, but not those of these triples
+pub record AreLeftWithout (store : Catalog) (texts : Texts) (keys : List Key) (left : List ℕ) (gone : List Triple) : Type 0 where
+  pub as_many : length left ≡ length keys
+  pub counted : (index : ℕ) (other : Key) → index < length keys → get_or left index 0 ≡ cond (has triple_cmp (triple_of_key store texts keys index other) gone) 0 1
 
 -- some triples of an owner are gone, each from among those that it had, and others came: so it has these now
 pub record Becomes (old new gone come : List Triple) : Type 0 where

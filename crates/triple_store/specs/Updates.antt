@@ -48,6 +48,10 @@ AreTimesIfKnown store keys counts triples = 0 < length counts → AreTimesOf sto
 abbrev pub AreLeft : StoreState → List Key → List ℕ → List ℕ → List Triple → Type 0
 AreLeft store keys counts left gone = lent.AddTimes store.catalog store.texts keys left counts gone
 
+-- each of the keys counts once, but not those of these triples
+abbrev pub AreLeftWithout : StoreState → List Key → List ℕ → List Triple → Type 0
+AreLeftWithout store keys left gone = lent.AreLeftWithout store.catalog store.texts keys left gone
+
 -- an owner had some triples under these keys, and so many are left of each; with those that come it has the triples that it has now
 abbrev pub ComesTo : StoreState → List Key → List ℕ → List Triple → List Triple → List Triple → Type 0
 ComesTo store keys left come before after = lent.ComesTo store.catalog store.texts keys left come before after

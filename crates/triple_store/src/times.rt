@@ -1,11 +1,11 @@
 // How many times each triple of one owner comes.
 
-ghost use Rattle.std.specs.Prelude.{◌≡◌, ◌<◌, true, List, length, get_or, Some, IfNone, IfSome};
+ghost use Rattle.std.specs.Prelude.{◌≡◌, ◌<◌, ℕ, true, List, length, get_or, Some, IfNone, IfSome};
 ghost use Rattle.sorted_sets.specs.Rising.{IsRising, has};
 ghost use Rattle.slot_keys.specs.{declared.key.Key.Key as TheKey, Keys.key_cmp};
 ghost use Rattle.triple_catalog.specs.{Slots.HasTexts, Stored.IsStored, Stored.is_key};
 ghost use Rattle.rdf_term.specs.declared.triple.Triple.{Triple};
-ghost use Rattle.triple_store.specs.Times.{AddTimes, AreTimesOf, Exceeds};
+ghost use Rattle.triple_store.specs.Times.{AddTimes, AreLeftWithout, AreTimesOf, Exceeds};
 
 use slot_keys::{Key, KeySlices, hinted, index_from};
 use text_region::Region;
@@ -35,6 +35,32 @@ pub(crate) fn less_times(
         left[at] = left[at].checked_sub(1)?;
     }
     Some(left)
+}
+
+// What is left of the keys, of which each counts once, after the triples are gone. One that has none of the keys, or that is gone already,
+// changes nothing. The walk is a hint: where it comes to a triple's key, this takes no look-up.
+pub(crate) fn once_without(
+    catalog: &Catalog,
+    region: &Region,
+    keys: KeySlices<'_>,
+    ones: Vec<u16>,
+    gone: &TripleTexts,
+) -> Vec<u16>
+    requires stored { IsStored catalog.now region.now }
+    requires rising { IsRising key_cmp keys.rising.now }
+    requires there { (key : TheKey) → has key_cmp key keys.rising.now ≡ true → is_key catalog.now key ≡ true }
+    requires as_many { length ones.items ≡ length keys.rising.now }
+    requires once { (index : ℕ) → index < length ones.items → get_or ones.items index 0 ≡ 1 }
+    ensures { AreLeftWithout catalog.now region.now keys.entry.rising.now result.items gone.now }
+{
+    let mut left = ones;
+    for index in 0..gone.len() {
+        let texts = gone.get(index);
+        if let Some(at) = index_of(catalog, region, keys, &texts, index) {
+            left[at] = 0;
+        }
+    }
+    left
 }
 
 // The index of the key of a triple, by its texts. Where the walk comes to it at the place, this takes no look-up.

@@ -7,12 +7,12 @@ ghost use Rattle.rdf_term.specs.declared.triple.Triple.{Triple as TheTriple};
 ghost use Rattle.slot_keys.specs.{KeyCounts.AddKeys, Keys.key_cmp};
 ghost use Rattle.triple_catalog.specs.Costs.{Costs};
 ghost use Rattle.triple_store.specs.{StoreState.counts_in, Telling.if_told};
-ghost use Rattle.triple_store.specs.Updates.{AreLeft, AreStored, AreTimesOf, ComesTo, Exceeds, IsExchange, IsPatched, IsRelease, KeepsRest, MayCome, MayGo};
+ghost use Rattle.triple_store.specs.Updates.{AreLeft, AreLeftWithout, AreStored, AreTimesOf, ComesTo, Exceeds, IsExchange, IsPatched, IsRelease, KeepsRest, MayCome, MayGo};
 
 use crate::StoreFault;
 use crate::store::Store;
 use crate::telling::{Sides, Telling, Told, change_if};
-use crate::times::less_times;
+use crate::times::{less_times, once_without};
 use comparison_steps::StepCounter;
 use rdf_term::{OutOfMemory, Triple};
 use slot_keys::{
@@ -137,6 +137,22 @@ impl Store {
         }
         let counts = copied(self.catalog.alloc, times)?;
         Ok(less_times(&self.catalog, &self.region, keys, counts, gone))
+    }
+
+    /// What is left of an owner's triples, of which each counts once, after some are gone, in the order of the keys: 1 or 0. One that is
+    /// gone twice, or that isn't the owner's, changes nothing. Where the walk comes to the key of a triple, this compares texts and looks
+    /// nothing up. It asks for memory for these numbers alone.
+    pub fn left_without(
+        &self,
+        keys: KeySlices<'_>,
+        gone: &TripleTexts,
+    ) -> Result<Vec<u16>, OutOfMemory>
+        requires { AreStored self.now keys.rising.now }
+        ensures { IfOk result (λ left. AreLeftWithout self.now keys.entry.rising.now left.items gone.now) }
+    {
+        let mut ones = Vec::new(self.catalog.alloc);
+        ones.resize(keys.rising.len(), 1)?;
+        Ok(once_without(&self.catalog, &self.region, keys, ones, gone))
     }
 
     /// Takes one owner away from the triples of these keys. If asked, it tells whether it made triples stored no longer, or which: only to tell
