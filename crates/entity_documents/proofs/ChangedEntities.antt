@@ -18,7 +18,7 @@ use Rattle.entity_json.specs.Joined.{One}
 use Rattle.entity_json.specs.Leaves.{◌>>=◌, optional, text_at, text_of}
 use Rattle.entity_json.specs.Links.{IsLink}
 use Rattle.entity_json.specs.Members.{HasOptionalText}
-use Rattle.entity_json.specs.Pages.{HasDatatype, HasLinks, IsDocument, IsEntity}
+use Rattle.entity_json.specs.Pages.{HasDatatype, HasLinks, IsDocument}
 use Rattle.entity_json.specs.Reading.Links.{link_step}
 use Rattle.entity_json.specs.Reading.Statements.{statements_step}
 use Rattle.entity_json.specs.Reading.Terms.{aliases_step, label_step}
@@ -28,10 +28,10 @@ use Rattle.entity_json.proofs.AgreeLeaves.{optional_text_at-complete}
 use Rattle.entity_json.proofs.AgreePages.{link_walks}
 use Rattle.entity_json.proofs.AgreeStatements.{IsStatementIn, statements_walk}
 use Rattle.entity_json.proofs.AgreeTagged.{AreAliasesUnder, aliases_walk, label_walks}
-use Rattle.entity_documents.proofs.ChangedMaps.{MemberDiffers, NewList, member_differs, new_list, statements_changed}
+use Rattle.entity_documents.proofs.ChangedMaps.{MemberDiffers, member_differs, new_list, statements_changed}
 
 -- texts under a name are never left out
-text_same : (name : List ℕ) (old new gone come : Tree) → MemberDiffers name old new gone come → (text_at name gone ≡ text_at name old) × (text_at name come ≡ text_at name new)
+pub text_same : (name : List ℕ) (old new gone come : Tree) → MemberDiffers name old new gone come → (text_at name gone ≡ text_at name old) × (text_at name come ≡ text_at name new)
 text_same name old new gone come (inl e) = (ap (λ m. m >>= text_of) e.0, ap (λ m. m >>= text_of) e.1)
 text_same name old new gone come (inr m) = (
   ap (λ o. o >>= text_of) m.gone_at ∙ sym (ap (λ o. o >>= text_of) m.old_at),

@@ -1,15 +1,14 @@
 -- The list that a map of the second page gives, by what both pages have of their own.
 use Rattle.std.proofs.Common.{◌≡◌, ℕ, zero, List, [], ◌∷◌, ◌++◌, Option, Some, inl, inr, refl, sym, ap, subst, ◌∙◌}
-use Rattle.std.specs.Prelude.{◌⊎◌, ◌≢◌, codes}
+use Rattle.std.specs.Prelude.{◌⊎◌}
 use Rattle.sorted_sets.specs.Rising.{In}
 use Rattle.sorted_sets.specs.Merging.{Merges}
 use Rattle.sorted_sets.proofs.Merged.{merges-none}
 use Rattle.json_spell.specs.Tree.{Tree, object, Pairs, member_of}
 use Rattle.json_spell.specs.View.{pairs_of}
-use Rattle.json_differing.specs.Differing.{AreApart, AreLess, AreObjects, Differ}
+use Rattle.json_differing.specs.Differing.{AreApart, AreLess, Differ}
 use Rattle.json_spell.proofs.Opened.{some_is}
 use Rattle.entity_model.specs.EntityId.{id_text}
-use Rattle.entity_model.specs.declared.id.EntityId.{EntityId}
 use Rattle.entity_model.specs.declared.statement.Statement.{Statement}
 use Rattle.entity_model.specs.Changes.{AreSeparate, StatementChanges}
 use Rattle.entity_json.specs.Joined.{InMap, Joined, One, numbered}

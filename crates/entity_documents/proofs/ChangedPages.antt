@@ -1,5 +1,5 @@
 -- The page of the second text, by what both texts have of their own. A page stands alone, or as the only entity of a text.
-use Rattle.std.proofs.Common.{◌≡◌, ℕ, suc, Bool, true, false, cond, ◌≤◌, List, length, Option, Some, None, is_some, inl, inr, refl, sym, ap, subst, ◌∙◌}
+use Rattle.std.proofs.Common.{◌≡◌, ℕ, Bool, true, false, ◌≤◌, List, length, Option, Some, None, is_some, inl, inr, refl, sym, ap, subst, ◌∙◌}
 use Rattle.std.specs.Prelude.{codes}
 use Rattle.json_spell.specs.Tree.{Tree, member_of}
 use Rattle.json_differing.specs.Differing.{Differ, Differs, Inside}
@@ -13,7 +13,6 @@ use Rattle.json_spell.specs.View.{json_view}
 use Rattle.json_differing.specs.Found.{AreDiffering}
 use Rattle.json_differing.specs.declared.differing.Differing.{Differing}
 use Rattle.json_spell.proofs.Complete.{one_tree}
-use Rattle.entity_documents.specs.declared.changed.Changed.{Changed}
 use Rattle.entity_json.specs.declared.page.Page.{Page}
 use Rattle.entity_documents.specs.Changed.{HasChanged, depth_of}
 use Rattle.entity_json.specs.Maps.{only_of}
@@ -21,9 +20,9 @@ use Rattle.entity_json.specs.Document.{document_of}
 use Rattle.entity_json.specs.Pages.{IsDocument, IsPage, StandsAt}
 use Rattle.entity_json.specs.Reading.Pages.{page_of}
 use Rattle.entity_json.proofs.AgreePages.{one_page, page_agrees}
-use Rattle.entity_documents.proofs.ChangedEntities.{NewEntity, new_entity, unchanged}
+use Rattle.entity_documents.proofs.ChangedEntities.{new_entity, unchanged}
 use Rattle.entity_json.proofs.Fitness.{documents}
-use Rattle.entity_documents.proofs.Rows.{AreKept, AreOnly, HaveAt, only_values, under_name}
+use Rattle.entity_documents.proofs.Rows.{AreOnly, only_values, under_name}
 
 -- the page of an entity
 abbrev pub EntityPage : EntityId → Tree → Entity → Type 0

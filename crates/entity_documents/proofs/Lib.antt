@@ -1,7 +1,8 @@
 pub mod AnswerLemmas
+pub mod ChangedEntities
+pub mod ChangedMaps
+pub mod ChangedPages
+pub mod EntityPages
 pub mod Entried
 pub mod Rows
 pub mod Splitting
-pub mod ChangedMaps
-pub mod ChangedEntities
-pub mod ChangedPages

@@ -1,5 +1,5 @@
 -- The lists that merged members give are merged of those that their parts give.
-use Rattle.std.proofs.Common.{◌≡◌, List, [], ◌∷◌, ◌++◌, Option, Some, inl, inr, refl, sym, ap, subst, ◌∙◌}
+use Rattle.std.proofs.Common.{◌≡◌, List, [], ◌∷◌, ◌++◌, Option, inl, inr, refl, sym, subst, ◌∙◌}
 use Rattle.json_spell.proofs.Opened.{some_is}
 use Rattle.sorted_sets.specs.Merging.{Merges}
 use Rattle.sorted_sets.proofs.Merged.{merges-ahead-first, merges-ahead-second}

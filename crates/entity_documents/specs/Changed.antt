@@ -7,6 +7,11 @@ use Rattle.entity_model.specs.Changes.{EntityChanges}
 use Rattle.entity_documents.specs.declared.changed.Changed.{Changed}
 use Rattle.entity_json.specs.Document.{document_of}
 
+-- the bytes are the page of an item or a property
+pub record IsEntityPage (x : EntityId) (bytes : List ℕ) : Type 0 where
+  pub entity : Entity
+  pub document : document_of x bytes ≡ Some (AnEntity entity)
+
 -- the second page is one of the entity too, and this is what its document and the first one's have of their own
 pub record HasChanged (x : EntityId) (bytes : List ℕ) (old : Entity) (changed : Changed) : Type 0 where
   pub new : Entity

@@ -1,10 +1,10 @@
 // What two pages of an entity have of their own.
 
-ghost use Rattle.std.specs.Prelude.{◌≡◌, Some, codes, is_some, IfSome};
+ghost use Rattle.std.specs.Prelude.{◌≡◌, None, Some, codes, is_some, IfSome};
 ghost use Rattle.json_spell.specs.{Tree.member_of, View.json_view};
 ghost use Rattle.entity_model.specs.{declared.entity.Entity.Entity as TheEntity, declared.document.Document.TheVariants.Entity as AnEntity};
-ghost use Rattle.entity_json.specs.{Document.document_of, Reading.Pages.page_of};
-ghost use Rattle.entity_documents.specs.{Changed.HasChanged, Changed.depth_of};
+ghost use Rattle.entity_json.specs.{Document.document_of, Document.unfit_of, Reading.Pages.page_of};
+ghost use Rattle.entity_documents.specs.{Changed.HasChanged, Changed.IsEntityPage, Changed.depth_of};
 
 use bumpalo::Bump;
 use entity_json::{PAGE_LIMIT, Page, discard, page_of};
@@ -66,14 +66,16 @@ fn has_entities(json: &Json<'_, '_>) -> bool
 
 /// What two pages of an entity have of their own, where the first one is known to be the page of an item or a property. None where
 /// the second one is no such page, where the two differ so that it isn't told apart (by another order of their members, or a name that
-/// comes twice), and where memory is refused: then `document` says what the second page is.
+/// comes twice), and where memory is refused: then `document` says what the second page is. Where it is told, a first page that is some
+/// document of the entity is that of an item or a property.
 pub fn read_changed<'a>(
     alloc: Global,
     id: EntityId,
     old: &'a [u8],
     new: &'a [u8],
 ) -> Option<Changed<'a>>
-    ensures { IfSome result (λ changed. (e : TheEntity) → document_of id old.now ≡ Some (AnEntity e) → HasChanged id new.now e changed) }
+    ensures changes { IfSome result (λ changed. (e : TheEntity) → document_of id old.now ≡ Some (AnEntity e) → HasChanged id new.now e changed) }
+    ensures kind { IfSome result (λ changed. unfit_of id old.now ≡ None → IsEntityPage id old.now) }
 {
     changed_within(alloc, id, new.starts_with(ENTITIES), old, new)
 }
@@ -86,7 +88,8 @@ fn changed_within<'a>(
     old: &'a [u8],
     new: &'a [u8],
 ) -> Option<Changed<'a>>
-    ensures { IfSome result (λ changed. (e : TheEntity) → document_of id old.now ≡ Some (AnEntity e) → HasChanged id new.now e changed) }
+    ensures changes { IfSome result (λ changed. (e : TheEntity) → document_of id old.now ≡ Some (AnEntity e) → HasChanged id new.now e changed) }
+    ensures kind { IfSome result (λ changed. unfit_of id old.now ≡ None → IsEntityPage id old.now) }
 {
     if new.len() > PAGE_LIMIT {
         return None;

@@ -25,8 +25,8 @@ pub fn counted_texts(
     munge_counted_into(setting, id, counted, TripleTexts::new(setting.alloc))
 }
 
-// The sink with what it keeps of what is left of each triple that the part says.
-fn munge_counted_into<S: TripleSink + Drop>(
+/// The sink with what it keeps of what is left of each triple that the part says, with the counts of the whole document.
+pub fn munge_counted_into<S: TripleSink + Drop>(
     setting: Setting,
     id: EntityId,
     counted: Counted<'_, '_>,

@@ -21,7 +21,7 @@ mod room;
 mod walk;
 
 pub use change_laws::{counts_change, kept_triples_balance, parts_are_fit};
-pub use counted::counted_texts;
+pub use counted::{counted_texts, munge_counted_into};
 pub use dump::{direct_texts, direct_triples, dump_triples};
 pub use laws::{dump_triples_are_given, kept_triples_are_left_of_given_ones};
 pub use lexeme_dump::lexeme_triples;
