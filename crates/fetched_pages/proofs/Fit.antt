@@ -15,7 +15,7 @@ use Rattle.replay_model.specs.{Records.Bytes, Records.Records, Replies.GivesDocu
 use Rattle.revisions.specs.Revisions.{Contents}
 use Rattle.entity_state.specs.declared.entry.Cause.{Cause}
 use Rattle.fetched_pages.specs.{Reply.IsReply, declared.fetching.FetchedPage.FetchedPage}
-use Rattle.fetched_pages.specs.declared.fetching.FetchedPage.TheVariants.{Whole, Changed}
+use Rattle.fetched_pages.specs.declared.fetching.FetchedPage.TheVariants.{Whole, Changed, Parted, Differing}
 use Rattle.fetched_pages.specs.{Fetched.IsFetched, Fetched.IsPageOf, Fetched.bytes_of, Listed.IsListed}
 use Rattle.fetched_pages.specs.Meaning.{document_triples, meaning, triples_if}
 use Rattle.std.specs.Prelude.{IfSome}
@@ -58,6 +58,8 @@ page_of v x rev bytes other ts counts graph is meant fit short listed = record {
 pub fetched_short : (records : Records) (by_two : List EntityId) (v : MappingVersion) (x : EntityId) (rev : ℕ) (page : FetchedPage) → IsFetched records by_two v x rev page → length (bytes_of page) ≤ 33554432
 fetched_short records by_two v x rev (Whole page) is = is.short
 fetched_short records by_two v x rev (Changed page) is = is.short
+fetched_short records by_two v x rev (Parted page) is = is.short
+fetched_short records by_two v x rev (Differing page) is = is.short
 
 -- a reply of a source that gives bytes gives a document
 pub reply_gives : (known : Option Contents) (folder : List ℕ) (x : EntityId) (rev : ℕ) (reply : Result Bytes Cause) → IsReply known folder x rev reply → GivesDocument unfit_of x reply

@@ -5,18 +5,23 @@ use Rattle.sorted_sets.specs.Rising.{has, sorted}
 use Rattle.rdf_term.specs.{declared.triple.Triple.Triple, Fit.HasFitAndShortTerms, Order.triple_cmp}
 use Rattle.entity_model.specs.{declared.id.EntityId.EntityId, declared.mapping.MappingVersion.MappingVersion}
 use Rattle.entity_state.specs.{declared.entry.Cause.Cause, declared.entry.Cause.TheVariants.Failed}
-use Rattle.replay_model.specs.Records.{Bytes, Records}
+use Rattle.entity_state.specs.declared.record.Held.{Held}
+use Rattle.replay_model.specs.{Records.Bytes, Records.Records, Records.record_of, Versions.version_at}
+use Rattle.page_parts.specs.Apart.{AreApart}
 use Rattle.entity_json.specs.declared.fault.DocumentFault.{DocumentFault}
 use Rattle.entity_json.specs.declared.fault.DocumentFault.TheVariants.{Unfit as NoDocument, OutOfMemory as DocumentOutOfMemory}
 use Rattle.entity_json.specs.Document.{document_of, unfit_of}
 use Rattle.fetched_pages.specs.{declared.comparing.ChangedPage.ChangedPage, declared.fetching.FetchedPage.FetchedPage}
-use Rattle.fetched_pages.specs.declared.fetching.FetchedPage.TheVariants.{Whole, Changed}
-use Rattle.fetched_pages.specs.{declared.fetching.Page.Page, Compared.IsChangeOfHeld, Listed.IsListed, Meaning.meaning}
+use Rattle.fetched_pages.specs.declared.fetching.FetchedPage.TheVariants.{Whole, Changed, Parted, Differing}
+use Rattle.fetched_pages.specs.{declared.fetching.Page.Page, declared.parting.DifferingPage.DifferingPage, declared.parting.PartedPage.PartedPage}
+use Rattle.fetched_pages.specs.{Compared.IsChangeOfHeld, Listed.IsListed, Meaning.meaning, Parted.ArePartsIn}
 
 -- the bytes of a page
 abbrev pub bytes_of : FetchedPage → Bytes
 bytes_of (Whole page) = page.bytes
 bytes_of (Changed page) = page.bytes
+bytes_of (Parted page) = page.bytes
+bytes_of (Differing page) = page.bytes
 
 -- the reply as the definitions of a replay speak of it
 abbrev pub reply_of : Result FetchedPage Cause → Result Bytes Cause
@@ -27,6 +32,11 @@ reply_of (Err cause) = Err cause
 abbrev pub reply_of_whole : Result Page Cause → Result Bytes Cause
 reply_of_whole (Ok page) = Ok page.bytes
 reply_of_whole (Err cause) = Err cause
+
+-- the same of a page that has all its triples in two parts
+abbrev pub reply_of_parted : Result PartedPage Cause → Result Bytes Cause
+reply_of_parted (Ok page) = Ok page.bytes
+reply_of_parted (Err cause) = Err cause
 
 -- the same, or any where no fetch was made
 abbrev pub reply_or_any : Option (Result FetchedPage Cause) → Result Bytes Cause
@@ -48,10 +58,26 @@ pub record IsChangedPage (records : Records) (by_two : List EntityId) (mapping :
   pub change : IsChangeOfHeld records by_two mapping x rev page.bytes page.texts
   pub short : length page.bytes ≤ 33554432
 
--- the page has all its triples, or those that it changes
+-- the page has the parts of what it means; its bytes fit a block of the region
+pub record IsPartedPage (mapping : MappingVersion) (x : EntityId) (rev : ℕ) (page : PartedPage) : Type 0 where
+  pub parts : ArePartsIn mapping x rev page.bytes page.is_counted page.parts
+  pub short : length page.bytes ≤ 33554432
+
+-- x holds a page, which is mapped by this version, and it is known what that and the page that was fetched have of their own; its bytes fit a
+-- block of the region
+pub record IsDifferingPage (records : Records) (by_two : List EntityId) (mapping : MappingVersion) (x : EntityId) (rev : ℕ) (page : DifferingPage) : Type 0 where
+  pub before : Held Bytes
+  pub held : (record_of records x).held ≡ Some before
+  pub by_version : version_at by_two x ≡ mapping
+  pub apart : AreApart x page.is_counted (meaning mapping x before.revision before.content) (meaning mapping x rev page.bytes) page.difference
+  pub short : length page.bytes ≤ 33554432
+
+-- the page has all its triples, or those that it changes, or all of them in two parts, or what it and the held page have of their own
 abbrev pub IsFetched : Records → List EntityId → MappingVersion → EntityId → ℕ → FetchedPage → Type 0
 IsFetched records by_two mapping x rev (Whole page) = IsPageOf mapping x rev page
 IsFetched records by_two mapping x rev (Changed page) = IsChangedPage records by_two mapping x rev page
+IsFetched records by_two mapping x rev (Parted page) = IsPartedPage mapping x rev page
+IsFetched records by_two mapping x rev (Differing page) = IsDifferingPage records by_two mapping x rev page
 
 -- the same of a reply that has a page
 abbrev pub IsMeant : Records → List EntityId → MappingVersion → EntityId → ℕ → Result FetchedPage Cause → Type 0

@@ -1,7 +1,9 @@
 pub mod Compared
+pub mod Differing
 pub mod Fetched
 pub mod Listed
 pub mod Meaning
 pub mod Means
+pub mod Parted
 pub mod Reply
 pub mod Routing

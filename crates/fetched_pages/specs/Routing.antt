@@ -6,7 +6,7 @@ use Rattle.replay_model.specs.Records.{Bytes}
 use Rattle.entity_state.specs.declared.entry.Cause.{Cause}
 use Rattle.graph_routes.specs.{declared.routes.Route.Route, Routing.route_of}
 use Rattle.fetched_pages.specs.declared.fetching.FetchedPage.{FetchedPage}
-use Rattle.fetched_pages.specs.declared.fetching.FetchedPage.TheVariants.{Whole, Changed}
+use Rattle.fetched_pages.specs.declared.fetching.FetchedPage.TheVariants.{Whole, Changed, Parted, Differing}
 use Rattle.fetched_pages.specs.Fetched.{bytes_of}
 
 -- the graph that a document is routed to; the last graph where there is none
@@ -22,10 +22,12 @@ route_of_page routes x bytes = route_if routes (document_of x bytes)
 abbrev pub route_by : Option (List Route) → EntityId → Bytes → Option ℕ
 route_by routes x bytes = option_map (λ (r : List Route). route_of_page r x bytes) routes
 
--- the graph that is told of a page: none is of one that has those triples alone that it changes
+-- the graph that is told of a page: none is of one that has those triples alone that it changes, or has them in two parts
 abbrev pub graph_of : FetchedPage → Option ℕ
 graph_of (Whole page) = page.graph
 graph_of (Changed page) = None
+graph_of (Parted page) = None
+graph_of (Differing page) = None
 
 -- a reply that has a page has its graph
 abbrev pub IsReplyRouted : Option (List Route) → EntityId → Result FetchedPage Cause → Type 0

@@ -1,27 +1,28 @@
 // The fetch of a revision, judged as a page of its entity.
 
-ghost use Rattle.std.specs.Prelude.{◌≡◌, ◌≤◌, List, None, Some, IfErr, IfOk, IfSome, length, option_copied, option_map};
+ghost use Rattle.std.specs.Prelude.{◌≡◌, ◌≤◌, List, None, Some, IfErr, IfOk, IfSome, length, option_copied};
 ghost use Rattle.std.specs.List.{AllByRecursion};
 ghost use Rattle.sorted_sets.specs.Rising.{sorted};
 ghost use Rattle.rdf_term.specs.{Fit.HasFitAndShortTerms, Order.triple_cmp};
-ghost use Rattle.entity_model.specs.{Document.IsDocumentOf, Document.IsSmall, declared.id.EntityId.EntityId as TheId};
+ghost use Rattle.entity_model.specs.declared.id.EntityId.{EntityId as TheId};
 ghost use Rattle.entity_json.specs.Document.{document_of, unfit_of};
 ghost use Rattle.revisions.specs.Revisions.{counted};
 ghost use Rattle.replay_model.specs.Records.{Records};
 ghost use Rattle.fetched_pages.specs.Reply.{IsJudged, IsReply, ShowsReply};
-ghost use Rattle.fetched_pages.specs.Compared.{HasEntity, IsChangeOfHeld, IsKnownPage};
+ghost use Rattle.fetched_pages.specs.{Compared.HasEntity, Compared.IsChangeOfHeld, Compared.IsKnownPage, Differing.IsHeldPage};
 ghost use Rattle.fetched_pages.specs.Fetched.{IsMeant, IsPageOf, IsWhy, bytes_of, reply_of, reply_of_whole};
-ghost use Rattle.fetched_pages.specs.{Listed.IsListed, Listed.counts_if, Meaning.document_triples, Meaning.meaning};
+ghost use Rattle.fetched_pages.specs.{Listed.IsListed, Meaning.meaning};
 ghost use Rattle.fetched_pages.specs.Routing.{IsReplyRouted, route_by};
-ghost use Rattle.graph_routes.specs.{declared.routes.Route.Route, Routing.route_of};
 
 use crate::comparing::{ChangedPage, ChangedTexts, KnownPage, changed_texts};
-use crate::meaning::document_texts;
+use crate::judging::judge_in_parts;
+use crate::meaning::map_document;
+use crate::parting::{DifferingPage, PartedPage};
 use entity_documents::document;
 use entity_json::{DocumentFault, discard};
-use entity_model::{Document, EntityId, MappingVersion};
+use entity_model::{EntityId, MappingVersion};
 use entity_state::Cause;
-use graph_routes::{Routes, route};
+use graph_routes::Routes;
 use page_rdf::Counts;
 use rdf_term::{List, OutOfMemory};
 use revisions::{NoRevision, Revisions};
@@ -54,6 +55,10 @@ pub enum FetchedPage {
     Whole(Page),
     /// What it changes.
     Changed(ChangedPage),
+    /// All of them, in two parts.
+    Parted(PartedPage),
+    /// What it and the held page have of their own, in two parts.
+    Differing(DifferingPage),
 }
 
 impl FetchedPage {
@@ -64,15 +69,33 @@ impl FetchedPage {
         match self {
             FetchedPage::Whole(page) => page.bytes.as_slice(),
             FetchedPage::Changed(page) => page.bytes.as_slice(),
+            FetchedPage::Parted(page) => page.bytes.as_slice(),
+            FetchedPage::Differing(page) => page.bytes.as_slice(),
         }
     }
 }
 
 /// What a fetched page is judged beside: the routes, if there are some, and the page that its entity holds, if it may be compared with that.
+/// Where its triples are wanted in two parts, the last field says what is known for that. With routes they aren't given in parts.
 #[derive(Clone, Copy)]
 pub struct Beside<'a> {
     pub routes: Option<&'a Routes>,
     pub known: Option<KnownPage<'a>>,
+    pub parts: Option<PartsBeside<'a>>,
+}
+
+/// Whether the entity of a page is counted, and the page that it holds, if it may be compared with that.
+#[derive(Clone, Copy)]
+pub struct PartsBeside<'a> {
+    pub is_counted: bool,
+    pub held: Option<HeldPage<'a>>,
+}
+
+/// The page that an entity holds: its revision and its bytes.
+#[derive(Clone, Copy)]
+pub struct HeldPage<'a> {
+    pub rev: u64,
+    pub bytes: &'a [u8],
 }
 
 /// The revision of an entity that is to be fetched, and the version of the mapping by which it is mapped.
@@ -99,6 +122,7 @@ pub fn fetch<R: Revisions>(
     requires { IfSome beside.known (HasEntity wanted.id) }
     ensures reply { IfOk result (λ reply. IsReply (R.contents revisions.old) folder.now wanted.id wanted.rev (reply_of reply)) }
     ensures meant { (records : Records) (by_two : List TheId) → IfSome beside.entry.known (IsKnownPage records by_two wanted.version wanted.id) →
+        IfSome beside.entry.parts (λ parts. IfSome parts.held (IsHeldPage records by_two wanted.version wanted.id)) →
         IfOk result (IsMeant records by_two wanted.version wanted.id wanted.rev) }
     ensures routed { IfOk result (IsReplyRouted (option_copied beside.entry.routes) wanted.id) }
     ensures shown { IfOk result (λ reply. ShowsReply (reply_of reply)
@@ -128,6 +152,7 @@ fn judge_beside(
     requires { IfSome beside.known (HasEntity wanted.id) }
     ensures judged { IfOk result (λ reply. IsJudged wanted.id bytes.items (reply_of reply)) }
     ensures meant { (records : Records) (by_two : List TheId) → IfSome beside.entry.known (IsKnownPage records by_two wanted.version wanted.id) →
+        IfSome beside.entry.parts (λ parts. IfSome parts.held (IsHeldPage records by_two wanted.version wanted.id)) →
         IfOk result (IsMeant records by_two wanted.version wanted.id wanted.rev) }
     ensures routed { IfOk result (IsReplyRouted (option_copied beside.entry.routes) wanted.id) }
 {
@@ -135,15 +160,22 @@ fn judge_beside(
         let bytes = List::from_vec(bytes);
         return Ok(Ok(FetchedPage::Changed(ChangedPage { bytes, texts })));
     }
-    match judge(alloc, wanted, bytes, beside.routes) {
-        Ok(Ok(page)) => Ok(Ok(FetchedPage::Whole(page))),
-        Ok(Err(cause)) => Ok(Err(cause)),
-        Err(OutOfMemory) => Err(OutOfMemory),
+    match beside {
+        Beside {
+            routes: None,
+            parts: Some(parts),
+            known: _,
+        } => judge_in_parts(alloc, wanted, bytes, parts),
+        _ => match judge(alloc, wanted, bytes, beside.routes) {
+            Ok(Ok(page)) => Ok(Ok(FetchedPage::Whole(page))),
+            Ok(Err(cause)) => Ok(Err(cause)),
+            Err(OutOfMemory) => Err(OutOfMemory),
+        },
     }
 }
 
 // The length in bytes from which a page is compared with the one that its entity holds: a shorter one is read as a whole in less time.
-const SHORTEST_COMPARED: usize = 1024;
+pub(crate) const SHORTEST_COMPARED: usize = 1024;
 
 // What the page changes of the one that its entity holds, where it may be compared with that: not where there are routes, since these ask for all
 // that a page says, and not where the page is short.
@@ -220,54 +252,5 @@ pub fn texts_in(
             }
         },
         Err(fault) => Err(fault),
-    }
-}
-
-// The triples of a document of the wanted entity, its counts, and its graph.
-fn map_document(
-    alloc: Global,
-    wanted: Wanted,
-    document: &Document,
-    routes: Option<&Routes>,
-) -> Result<Mapped, OutOfMemory>
-    requires { IsDocumentOf wanted.id document.now }
-    ensures meant { IfOk result (λ mapped. sorted triple_cmp mapped.triples ≡ document_triples wanted.version wanted.id wanted.rev document.now) }
-    ensures listed { IfOk result (λ mapped. IfSome mapped.counts (λ counts. IsListed wanted.version wanted.id wanted.rev (Some document.now) counts mapped.triples)) }
-    ensures fit { IsSmall document.now → IfOk result (λ mapped. AllByRecursion HasFitAndShortTerms mapped.triples) }
-    ensures routed { IfOk result (λ mapped. mapped.graph ≡ option_map (λ (r : List Route). route_of r document.now) (option_copied routes.entry)) }
-{
-    let graph = graph_of(alloc, document, routes)?;
-    let triples = document_texts(alloc, wanted.id, wanted.rev, document, wanted.version)?;
-    Ok(Mapped {
-        triples,
-        counts: counts_in(document),
-        graph,
-    })
-}
-
-// The counts of the document of an item or a property.
-fn counts_in(document: &Document) -> Option<Counts>
-    ensures { result ≡ counts_if document.now }
-{
-    match document {
-        Document::Entity(entity) => Some(Counts::of(entity)),
-        Document::Redirect(_) | Document::Lexeme(_) => None,
-    }
-}
-
-// The graph that a document is routed to, where there are routes.
-fn graph_of(
-    alloc: Global,
-    document: &Document,
-    routes: Option<&Routes>,
-) -> Result<Option<usize>, OutOfMemory>
-    ensures { IfOk result (λ graph. graph ≡ option_map (λ (r : List Route). route_of r document.now) (option_copied routes.entry)) }
-{
-    match routes {
-        Some(routes) => match route(alloc, routes, document) {
-            Ok(graph) => Ok(Some(graph)),
-            Err(refused) => Err(refused),
-        },
-        None => Ok(None),
     }
 }

@@ -1,3 +1,4 @@
+pub mod Apart
 pub mod Merged
 pub mod MergedLines
 pub mod OneLine

@@ -1,14 +1,15 @@
 -- The parts of a page come in the place of others, and what is told of that.
-use Rattle.std.specs.Prelude.{◌≡◌, ◌<◌, ◌≤◌, ⊤, true, false, List, ◌++◌, Result, Err, IfOk, OnErr}
+use Rattle.std.specs.Prelude.{◌≡◌, ◌<◌, ◌≤◌, ⊤, Bool, true, false, not, filter, List, ◌++◌, Result, Err, IfOk, OnErr}
 use Rattle.sorted_sets.specs.Rising.{has, sorted}
 use Rattle.rdf_term.specs.{declared.triple.Triple.Triple, Order.triple_cmp}
+use Rattle.entity_model.specs.declared.id.EntityId.{EntityId}
 use Rattle.slot_keys.specs.declared.key.Key.{Key}
 use Rattle.term_pool.specs.{declared.fault.PoolFault.PoolFault, declared.fault.PoolFault.TheVariants.Full}
 use Rattle.triple_catalog.specs.{declared.lines.TripleLines.TripleLines, Counts.Counts, Counts.Exchanges, Lines.AreLinesOf, Room.room_for}
 use Rattle.triple_store.specs.{declared.telling.Told.Told, Telling.IsChange}
 use Rattle.triple_store.specs.declared.telling.Told.TheVariants.{Nothing as NothingTold, Whether as ToldWhether, Change as ToldChange}
 use Rattle.triple_store.specs.StoreState.{AreKeysOf, StoreState, counts_in, limit_of}
-use Rattle.page_rows.specs.{Rows.IsRowChange}
+use Rattle.page_parts.specs.{declared.difference.PageDifference.PageDifference, Apart.AreApart, Parts.stands_alone, Rows.IsRowChange}
 use Rattle.parts_exchange.specs.declared.exchanging.PartsChange.{PartsChange}
 use Rattle.parts_exchange.specs.declared.exchanging.PartsExchange.{PartsExchange}
 
@@ -35,6 +36,21 @@ pub record IsPartsExchange (old new : StoreState) (keys : List Key) (own_before 
   pub done : IfOk result (HasExchangedParts old new keys own_before own shared)
   pub err : OnErr result (counts_in new ≡ counts_in old)
   pub full : result ≡ Err Full → limit_of old < room_for (counts_in old) shared
+
+-- of the triples of a page of x, which is counted or isn't, those that stand in this page alone
+abbrev pub own_part : Bool → EntityId → List Triple → List Triple
+own_part is_counted x triples = filter (stands_alone is_counted x) triples
+
+-- and the others
+abbrev pub shared_part : Bool → EntityId → List Triple → List Triple
+shared_part is_counted x triples = filter (λ t. not (stands_alone is_counted x t)) triples
+
+-- the parts of one page of an entity came in the place of those of another, or a fault changed no count: so it is for each two pages that have
+-- this of their own, where the keys are those of the shared triples of the page that goes
+abbrev pub IsDifferenceExchange : StoreState → StoreState → List Key → PageDifference → Result PartsExchange PoolFault → Type 0
+IsDifferenceExchange old new keys difference result =
+    (x : EntityId) (is_counted : Bool) (before after : List Triple) → AreApart x is_counted before after difference → AreKeysOf old keys (shared_part is_counted x before)
+    → IsPartsExchange old new keys (own_part is_counted x before) (own_part is_counted x after) (shared_part is_counted x after) result
 
 -- the triples are those of two texts of lines, each in order, merged: none is in both
 pub record AreMerged (first second : TripleLines) (triples : List Triple) : Type 0 where

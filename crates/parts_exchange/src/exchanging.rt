@@ -1,14 +1,13 @@
 // The parts of a page come in the place of others.
 
-ghost use Rattle.std.specs.Prelude.{◌≡◌, ◌<◌};
+ghost use Rattle.std.specs.Prelude.{◌≡◌, ◌<◌, OnErr};
 ghost use Rattle.std.specs.List.{AllByRecursion};
 ghost use Rattle.rdf_term.specs.{declared.triple.Triple.Triple, Fit.HasFitAndShortTerms};
 ghost use Rattle.triple_store.specs.{Counts.count_of, StoreState.IsSound, StoreState.counts_in, Updates.AreStored, Updates.KeepsRest};
 ghost use Rattle.triple_store.specs.declared.telling.Told.TheVariants.{Change as ToldChange};
-ghost use Rattle.parts_exchange.specs.Exchanged.{IsPartsExchange, IsToldChange};
+ghost use Rattle.parts_exchange.specs.Exchanged.{IsDifferenceExchange, IsPartsExchange, IsToldChange};
 
-use page_parts::PageParts;
-use page_rows::{RowChange, row_change};
+use page_parts::{PageDifference, PageParts, RowChange, row_change};
 use std::alloc::Global;
 use triple_store::{Change, KeySlices, Keys, Left, Store, StoreFault, Telling, Told, Uncounted};
 use triple_texts::TripleTexts;
@@ -59,7 +58,50 @@ pub fn exchange_parts(
     };
     match store.exchange(left, parts.shared(), Telling::Change, &mut Uncounted) {
         Ok(done) => Ok(PartsExchange {
-            keys: done.keys,
+            keys: done.keys.compact(alloc),
+            change: joined(own, done.change),
+        }),
+        Err(fault) => {
+            drop(own);
+            Err(fault)
+        }
+    }
+}
+
+/// Puts the parts of a page in the place of those of the page whose shared triples have these keys, by what both have of their own: beside the
+/// keys it takes time and memory for that alone. It tells the change. After a fault every triple has the count that it had.
+pub fn exchange_difference(
+    alloc: Global,
+    store: &mut Store,
+    keys: KeySlices<'_>,
+    difference: &PageDifference,
+) -> Result<PartsExchange, StoreFault>
+    requires sound { IsSound store.old }
+    requires stored { AreStored store.old keys.rising.now }
+    requires countable { (t : Triple) → count_of (counts_in store.old) t < 18446744073709551615 }
+    requires fit { AllByRecursion HasFitAndShortTerms difference.now.come.shared }
+    ensures exchanged { IsDifferenceExchange store.old store.new keys.entry.rising.now difference.now result }
+    ensures err { OnErr result (counts_in store.new ≡ counts_in store.old) }
+    ensures rest { KeepsRest store.old store.new }
+{
+    let PageDifference { gone, come } = difference;
+    let Ok(own) = row_change(alloc, gone.own(), come.own()) else {
+        return Err(StoreFault::OutOfMemory);
+    };
+    // Each triple of a page has one key, so where there are no keys the counts are empty too, and nothing is left of it.
+    let Ok(counts) = store.left_without(keys, gone.shared()) else {
+        drop(own);
+        return Err(StoreFault::OutOfMemory);
+    };
+    let left = Left {
+        keys,
+        counts: counts.as_slice(),
+    };
+    let exchanged = store.exchange(left, come.shared(), Telling::Change, &mut Uncounted);
+    drop(counts);
+    match exchanged {
+        Ok(done) => Ok(PartsExchange {
+            keys: done.keys.compact(alloc),
             change: joined(own, done.change),
         }),
         Err(fault) => {

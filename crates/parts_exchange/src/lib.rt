@@ -7,6 +7,6 @@ mod exchanging;
 mod laws;
 mod merging;
 
-pub use exchanging::{HadParts, PartsChange, PartsExchange, exchange_parts};
+pub use exchanging::{HadParts, PartsChange, PartsExchange, exchange_difference, exchange_parts};
 pub use laws::parts_tell_the_change;
 pub use merging::{NextLine, merged_lines, next_line};

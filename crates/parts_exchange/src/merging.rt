@@ -7,9 +7,11 @@ ghost use Rattle.rdf_term.specs.{declared.triple.Triple.Triple, Order.triple_cmp
 ghost use Rattle.triple_catalog.specs.Lines.{AreLinesOf};
 ghost use Rattle.parts_exchange.specs.Merging.{AreOrderedLines, IsNext};
 
+use memchr::memchr;
 use rdf_term::OutOfMemory;
 use std::alloc::Global;
 use std::cmp::Ordering;
+use triple_catalog::compare_texts;
 use triple_store::TripleLines;
 
 /// Merges the lines of two lists of fit triples, each in order: the lines of the triples of both, each once. It takes memory for as many bytes
@@ -71,7 +73,7 @@ pub fn next_line<'a>(left: &'a [u8], right: &'a [u8]) -> NextLine<'a>
     }
     let (left_line, left_rest) = left.split_at(line_end(left));
     let (right_line, right_rest) = right.split_at(line_end(right));
-    match left_line.cmp(right_line) {
+    match compare_texts(left_line, right_line) {
         Ordering::Less => NextLine {
             line: left_line,
             left: left_rest,
@@ -98,11 +100,8 @@ fn line_end(text: &[u8]) -> usize
     ensures some { 0 < result }
     ensures within { result ≤ length text.now }
 {
-    let last = text.len() - 1;
-    for index in 0..last {
-        if text[index] == b'\n' {
-            return index + 1;
-        }
+    match memchr(b'\n', text) {
+        Some(index) => index + 1,
+        None => text.len(),
     }
-    text.len()
 }

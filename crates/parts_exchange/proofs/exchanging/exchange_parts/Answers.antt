@@ -1,11 +1,12 @@
 -- All shared triples of the page come, and both changes are told.
-use Rattle.std.proofs.Common.{◌≡◌, ◌<◌, Err, ap, sym, subst}
+use Rattle.std.proofs.Common.{◌≡◌, ◌<◌, List, Err, ap, sym, subst}
 use Rattle.term_pool.specs.declared.fault.PoolFault.TheVariants.{Full}
 use Rattle.triple_catalog.specs.Room.{room_for}
-use Rattle.triple_store.specs.{StoreState.counts_in, StoreState.limit_of, Updates.MayCome}
+use Rattle.slot_keys.specs.declared.key.Key.{Key}
+use Rattle.triple_store.specs.{StoreState.AreKeysOf, StoreState.counts_in, StoreState.limit_of, Updates.MayCome}
 use Rattle.triple_store.proofs.Whole.{IsWhole, whole, whole_full}
 use Rattle.triple_store.specs.declared.telling.Telling.TheVariants.{Change as TheChange}
-use Rattle.page_rows.specs.Rows.{IsRowChange}
+use Rattle.page_parts.specs.Rows.{IsRowChange}
 use Rattle.parts_exchange.proofs.Telling.{change_told, told_change}
 use Rattle.parts_exchange.proofs.exchanging.exchange_parts.Goals as goal
 
@@ -30,7 +31,7 @@ returns-in-Ok-exchange-clause-exchanged c =
     record {
       done = record {
         counts = came.counts;
-        keys_are = came.keys_are;
+        keys_are = subst (λ (ks : List Key). AreKeysOf new ks c.args.parts.now.shared) (sym c.compact.ensures) came.keys_are;
         told = record {
           own = subst (λ r. IsRowChange c.args.had.own.now c.args.parts.now.own r) (sym c.joined.ensures.own) (subst (λ l. IsRowChange c.args.had.own.now l c.in-Ok.own) c.own.ensures c.in-Ok.ensures);
           stored = change_told (counts_in old) (counts_in new) done.change c.joined.result.stored c.joined.ensures.stored came.told;

@@ -17,7 +17,7 @@ returns-then-is_empty-2-clause-next c some others left_is right_is ordered order
 
 pub returns-in-Less-clause-next : goal.returns-in-Less-clause-next
 returns-in-Less-clause-next c some others left_is right_is ordered orders =
-    let order : bytes_cmp (take c.line_end-2.result c.args.left.now) (take c.line_end-3.result c.args.right.now) ≡ Less = (λ i. bytes_cmp (sym c.split_at-2.ensures.front i) (sym c.split_at-3.ensures.front i)) ∙ sym c.cmp.ensures ∙ c.in-Less.is in
+    let order : bytes_cmp (take c.line_end-2.result c.args.left.now) (take c.line_end-3.result c.args.right.now) ≡ Less = (λ i. bytes_cmp (sym c.split_at-2.ensures.front i) (sym c.split_at-3.ensures.front i)) ∙ sym c.compare_texts.ensures ∙ c.in-Less.is in
     next_lesser some others c.args.left.now c.args.right.now left_is right_is ordered orders c.line_end-2.result c.line_end-3.result
     (first_line some c.args.left.now c.line_end-2.result left_is ordered c.line_end-2.ensures.some c.line_end-2.ensures.within c.line_end-2.ensures.before c.line_end-2.ensures.ended)
     (first_line others c.args.right.now c.line_end-3.result right_is orders c.line_end-3.ensures.some c.line_end-3.ensures.within c.line_end-3.ensures.before c.line_end-3.ensures.ended)
@@ -25,7 +25,7 @@ returns-in-Less-clause-next c some others left_is right_is ordered orders =
 
 pub returns-in-Equal-clause-next : goal.returns-in-Equal-clause-next
 returns-in-Equal-clause-next c some others left_is right_is ordered orders =
-    let order : bytes_cmp (take c.line_end-2.result c.args.left.now) (take c.line_end-3.result c.args.right.now) ≡ Equal = (λ i. bytes_cmp (sym c.split_at-2.ensures.front i) (sym c.split_at-3.ensures.front i)) ∙ sym c.cmp.ensures ∙ c.in-Equal.is in
+    let order : bytes_cmp (take c.line_end-2.result c.args.left.now) (take c.line_end-3.result c.args.right.now) ≡ Equal = (λ i. bytes_cmp (sym c.split_at-2.ensures.front i) (sym c.split_at-3.ensures.front i)) ∙ sym c.compare_texts.ensures ∙ c.in-Equal.is in
     next_same some others c.args.left.now c.args.right.now left_is right_is ordered orders c.line_end-2.result c.line_end-3.result
     (first_line some c.args.left.now c.line_end-2.result left_is ordered c.line_end-2.ensures.some c.line_end-2.ensures.within c.line_end-2.ensures.before c.line_end-2.ensures.ended)
     (first_line others c.args.right.now c.line_end-3.result right_is orders c.line_end-3.ensures.some c.line_end-3.ensures.within c.line_end-3.ensures.before c.line_end-3.ensures.ended)
@@ -33,7 +33,7 @@ returns-in-Equal-clause-next c some others left_is right_is ordered orders =
 
 pub returns-in-Greater-clause-next : goal.returns-in-Greater-clause-next
 returns-in-Greater-clause-next c some others left_is right_is ordered orders =
-    let order : bytes_cmp (take c.line_end-2.result c.args.left.now) (take c.line_end-3.result c.args.right.now) ≡ Greater = (λ i. bytes_cmp (sym c.split_at-2.ensures.front i) (sym c.split_at-3.ensures.front i)) ∙ sym c.cmp.ensures ∙ c.in-Greater.is in
+    let order : bytes_cmp (take c.line_end-2.result c.args.left.now) (take c.line_end-3.result c.args.right.now) ≡ Greater = (λ i. bytes_cmp (sym c.split_at-2.ensures.front i) (sym c.split_at-3.ensures.front i)) ∙ sym c.compare_texts.ensures ∙ c.in-Greater.is in
     next_greater some others c.args.left.now c.args.right.now left_is right_is ordered orders c.line_end-2.result c.line_end-3.result
     (first_line some c.args.left.now c.line_end-2.result left_is ordered c.line_end-2.ensures.some c.line_end-2.ensures.within c.line_end-2.ensures.before c.line_end-2.ensures.ended)
     (first_line others c.args.right.now c.line_end-3.result right_is orders c.line_end-3.ensures.some c.line_end-3.ensures.within c.line_end-3.ensures.before c.line_end-3.ensures.ended)

@@ -1,7 +1,0 @@
--- No line feed so far.
-use Rattle.std.proofs.Common.{◌≢◌, ◌<◌, ℕ}
-use Rattle.std.specs.Prelude.{slice_index}
-use Rattle.parts_exchange.proofs.merging.line_end.Given as goal
-
-abbrev pub invariant-loop-index : goal.invariant-loop-index
-invariant-loop-index l = (k : ℕ) → k < l.index → slice_index l.text k ≢ 10
