@@ -24,7 +24,7 @@ use Rattle.triple_store.proofs.{Becoming.comes_parted, Lasting.no_times_known, L
 use Rattle.triple_store.proofs.Whole.{IsWhole}
 use Rattle.fetched_pages.specs.{declared.comparing.ChangedPage.ChangedPage, declared.comparing.ChangedTexts.ChangedTexts}
 use Rattle.fetched_pages.specs.{declared.comparing.KnownPage.KnownPage, declared.fetching.FetchedPage.FetchedPage}
-use Rattle.fetched_pages.specs.declared.fetching.FetchedPage.TheVariants.{Whole, Changed}
+use Rattle.fetched_pages.specs.declared.fetching.FetchedPage.TheVariants.{Whole, Changed, Parted, Differing}
 use Rattle.fetched_pages.specs.{declared.fetching.Wanted.Wanted, Compared.AreChanged, Compared.HasEntity, Compared.IsKnownPage}
 use Rattle.fetched_pages.specs.{Fetched.IsFetched, Listed.AreTextsOf, Listed.IsListed, Meaning.meaning}
 use Rattle.holdings.specs.{declared.kept.KeptPage.KeptPage, declared.kept.PageTimes.PageTimes, declared.swapping.PageExchange.PageExchange}
@@ -206,6 +206,8 @@ pub may_swap : (s s1 : StoreState) (ids : ByVersion) (kept : KeptRecords) (wante
     → keys ≡ keys_held (kept_of kept wanted.id).held → times ≡ times_held (kept_of kept wanted.id).held
     → IsFetched (seen s kept) ids.by_two wanted.version wanted.id wanted.rev page → MaySwap s1 keys times wanted page
 may_swap s s1 ids kept wanted (Whole page) keys times h place_kept place_counts keys_are times_are fetched = fetched
+may_swap s s1 ids kept wanted (Parted page) keys times h place_kept place_counts keys_are times_are fetched = tt
+may_swap s s1 ids kept wanted (Differing page) keys times h place_kept place_counts keys_are times_are fetched = tt
 may_swap s s1 ids kept wanted (Changed page) keys times h place_kept place_counts keys_are times_are fetched =
     let x = wanted.id in
     let change = fetched.change in

@@ -1,5 +1,5 @@
 -- The triples of a page come in the place of those that its entity had.
-use Rattle.std.specs.Prelude.{◌≡◌, ℕ, ◌<◌, ◌≤◌, List, Option, Result, Err, IfOk, IfSome, OnErr, option_map}
+use Rattle.std.specs.Prelude.{◌≡◌, ℕ, ◌<◌, ◌≤◌, ⊤, List, Option, Result, Err, IfOk, IfSome, OnErr, option_map}
 use Rattle.rdf_term.specs.declared.triple.Triple.{Triple}
 use Rattle.entity_model.specs.declared.entity.Entity.{Entity}
 use Rattle.page_rdf.specs.declared.counts.Counts.{Counts}
@@ -11,7 +11,7 @@ use Rattle.triple_store.specs.{declared.updates.Exchange.Exchange, declared.tell
 use Rattle.triple_store.specs.{Updates.AreTimesIfKnown, Room.room_for}
 use Rattle.triple_store.specs.{StoreState.AreKeysOf, StoreState.StoreState, StoreState.counts_in, StoreState.limit_of, Telling.TellsIf}
 use Rattle.fetched_pages.specs.{declared.comparing.ChangedPage.ChangedPage, declared.fetching.FetchedPage.FetchedPage}
-use Rattle.fetched_pages.specs.declared.fetching.FetchedPage.TheVariants.{Whole, Changed}
+use Rattle.fetched_pages.specs.declared.fetching.FetchedPage.TheVariants.{Whole, Changed, Parted, Differing}
 use Rattle.fetched_pages.specs.{declared.fetching.Wanted.Wanted, Compared.AreChanged, Fetched.IsPageOf, Meaning.meaning}
 use Rattle.holdings.specs.{declared.swapping.PageExchange.PageExchange, Timed.IsTimed}
 
@@ -27,6 +27,8 @@ pub record MaySwapParts (store : StoreState) (keys : List Key) (times : List ℕ
 abbrev pub MaySwap : StoreState → List Key → List ℕ → Wanted → FetchedPage → Type 0
 MaySwap store keys times wanted (Whole page) = IsPageOf wanted.version wanted.id wanted.rev page
 MaySwap store keys times wanted (Changed page) = MaySwapParts store keys times wanted page
+MaySwap store keys times wanted (Parted page) = ⊤
+MaySwap store keys times wanted (Differing page) = ⊤
 
 -- what an exchange gives, with the counts of the page, if it has some: without these nothing is known of the times
 abbrev pub with_counts : Option Counts → Exchange → PageExchange

@@ -7,7 +7,7 @@ ghost use Rattle.fetched_pages.specs.Fetched.{bytes_of};
 ghost use Rattle.holdings.specs.Swapped.{IsPageExchange, MaySwap, with_counts};
 
 use crate::kept::PageTimes;
-use fetched_pages::{ChangedPage, FetchedPage, Wanted, texts_in};
+use fetched_pages::{FetchedPage, Wanted, texts_in};
 use page_rdf::Counts;
 use std::alloc::Global;
 use triple_store::{Exchange, KeySlices, Keys, Left, Store, StoreFault, Telling, Told, Uncounted};
@@ -82,10 +82,17 @@ pub fn exchange_page(
                         Err(fault) => Err(fault),
                     }
                 }
-                Ok(None) => exchange_anew(store, had.keys, page, setting),
+                Ok(None) => exchange_anew(store, had.keys, page.bytes.as_slice(), setting),
                 Err(_) => Err(StoreFault::OutOfMemory),
             }
         }
+        FetchedPage::Parted(page) => exchange_anew(store, had.keys, page.bytes.as_slice(), setting),
+        FetchedPage::Differing(page) => exchange_anew(
+            store,
+            had.keys,
+            page.bytes.as_slice(),
+            setting,
+        ),
     }
 }
 
@@ -113,16 +120,16 @@ fn with_counts(done: Exchange, counts: Option<Counts>) -> PageExchange
 fn exchange_anew(
     store: &mut Store,
     old: KeySlices<'_>,
-    page: &ChangedPage,
+    page: &[u8],
     setting: SwapSetting,
 ) -> Result<PageExchange, StoreFault>
     requires sound { IsSound store.old }
     requires stored { AreStored store.old old.rising.now }
     requires countable { (t : Triple) → count_of (counts_in store.old) t < 18446744073709551615 }
-    ensures exchanged { IsPageExchange setting.telling store.old store.new old.entry.rising.now setting.wanted page.now.bytes result }
+    ensures exchanged { IsPageExchange setting.telling store.old store.new old.entry.rising.now setting.wanted page.now result }
     ensures rest { KeepsRest store.old store.new }
 {
-    match texts_in(setting.alloc, setting.wanted, page.bytes.as_slice(), None) {
+    match texts_in(setting.alloc, setting.wanted, page, None) {
         Ok(mapped) => {
             let left = Left {
                 keys: old,

@@ -1,3 +1,4 @@
+pub mod Apart
 pub mod CountedIn
 pub mod CountedOut
 pub mod Going

@@ -18,7 +18,7 @@ use Rattle.lean_holdings.specs.Holding.{counted_by, strangers_on}
 use Rattle.lean_holdings.proofs.Needing.{needs_more, room_more}
 
 -- an entity that a page names is counted
-some_counted : (names : Naming) (y : EntityId) → nat_lt 0 (pages_naming names y) ≡ true → has entity_cmp y (counted_by names) ≡ true
+pub some_counted : (names : Naming) (y : EntityId) → nat_lt 0 (pages_naming names y) ≡ true → has entity_cmp y (counted_by names) ≡ true
 some_counted names y some = sym (map.contains_key-keys names y) ∙ by (map.get names y) some
   where
     by : (found : Option ℕ) → nat_lt 0 (unwrap_or found 0) ≡ true → is_some found ≡ true

@@ -28,11 +28,11 @@ fit_or : (t u : Triple) (ts : List Triple) (b : Bool) → eq_by_cmp triple_cmp t
 fit_or t u ts true same fit later there = subst HasFitAndShortTerms (sym (triple_cmp-IsAntisymmetric t u (equal _ same))) fit
 fit_or t u ts false other fit later there = later there
 
-fit_one : (ts : List Triple) → AllByRecursion HasFitAndShortTerms ts → (t : Triple) → has triple_cmp t ts ≡ true → HasFitAndShortTerms t
+pub fit_one : (ts : List Triple) → AllByRecursion HasFitAndShortTerms ts → (t : Triple) → has triple_cmp t ts ≡ true → HasFitAndShortTerms t
 fit_one [] fit t there = absurd (true≢false (sym there))
 fit_one (u ∷ ts) fit t there = fit_or t u ts (eq_by_cmp triple_cmp t u) refl fit.0 (λ later. fit_one ts fit.1 t later) there
 
-fit_each : (ts : List Triple) → ((t : Triple) → has triple_cmp t ts ≡ true → HasFitAndShortTerms t) → AllByRecursion HasFitAndShortTerms ts
+pub fit_each : (ts : List Triple) → ((t : Triple) → has triple_cmp t ts ≡ true → HasFitAndShortTerms t) → AllByRecursion HasFitAndShortTerms ts
 fit_each [] each = tt
 fit_each (t ∷ ts) each =
     (each t (has_itself triple_cmp-total t ts), fit_each ts (λ u there. each u (or_true (eq_by_cmp triple_cmp u t) _ there)))

@@ -1,6 +1,6 @@
 -- What is so where a call answers with a fault, and where it doesn't.
-use Rattle.std.proofs.Common.{Result, Ok, Err}
-use Rattle.std.specs.Prelude.{OnErr, OnOk}
+use Rattle.std.proofs.Common.{◌≡◌, Result, Ok, Err, refl}
+use Rattle.std.specs.Prelude.{IfOk, OnErr, OnOk}
 
 pub on_err : {A B P Q : Type 0} → (P → Q) → (r : Result A B) → OnErr r P → OnErr r Q
 on_err f (Ok x) h = tt
@@ -23,3 +23,8 @@ if_ok (Err e) h = tt
 pub if_err : {A B P : Type 0} → (r : Result A B) → P → OnErr r P
 if_err (Ok x) h = tt
 if_err (Err e) h = h
+
+-- what is so of each value that a call may answer with
+pub if_each : {A B : Type 0} → {P : A → Type 0} → (r : Result A B) → ((x : A) → r ≡ Ok x → P x) → IfOk r P
+if_each (Ok x) h = h x refl
+if_each (Err e) h = tt

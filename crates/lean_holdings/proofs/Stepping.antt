@@ -21,10 +21,10 @@ use Rattle.shared_triples.proofs.{Changing.gained_in_order, Changing.gained_once
 use Rattle.entity_counts.specs.Naming.{Naming}
 use Rattle.parts_exchange.specs.{declared.exchanging.PartsChange.PartsChange, declared.exchanging.PartsExchange.PartsExchange}
 use Rattle.parts_exchange.specs.{Exchanged.IsPartsChange}
-use Rattle.lean_holdings.specs.{declared.kept.LeanPage.LeanPage, declared.parts.NamedParts.NamedParts, Changing.IsChangeOf, Freeing.FreesPiece}
+use Rattle.lean_holdings.specs.{declared.kept.LeanPage.LeanPage, Changing.IsChangeOf, Freeing.FreesPiece}
 use Rattle.holders.specs.{Holders.AreBy, Holders.ByVersion, Pieces.IsHeld, Pieces.PieceTexts}
 use Rattle.lean_holdings.specs.{Holding.IsKept, Holding.counted_by, Holding.strangers_on, InStep.AreInStep}
-use Rattle.lean_holdings.specs.{Moving.ArePartsOf, Moving.HasMoved, Moving.MayMove}
+use Rattle.lean_holdings.specs.{Moving.AreListsOf, Moving.HaveMoved, Moving.MayMove, Moving.PartLists}
 use Rattle.lean_holdings.specs.Kept.{KeptRecords, held_keys, holds_in, kept_of, keys_held, piece_at, records_with, seen, with_keys}
 use Rattle.holders.proofs.ByVersion.{by_drop, by_put, meaning_other, moved_out, moved_to, version_own}
 use Rattle.holders.proofs.Records.{record_here}
@@ -76,7 +76,7 @@ step_change x counted m n p q before after was now alike owned_p owned_q old new
 
 -- the parts by the version of an entity are those of what it means
 pub parts_by : (counted : List EntityId) (by_two : List EntityId) (x : EntityId) (v : MappingVersion) → version_at by_two x ≡ v
-    → (held : Option (Held Bytes)) (p : NamedParts) → ArePartsOf counted (meaning v) x held p → ArePartsOf counted (meaning_by meaning by_two) x held p
+    → (held : Option (Held Bytes)) (p : PartLists) → AreListsOf counted (meaning v) x held p → AreListsOf counted (meaning_by meaning by_two) x held p
 parts_by counted by_two x v is None p are = record { own = are.own; stored = are.stored; fit = are.fit; rising = are.rising; names = are.names }
 parts_by counted by_two x v is (Some held) p are = record {
   own = are.own ∙ ap (λ w. filter (is_own counted x) (meaning w x held.revision held.content)) (sym is);
@@ -87,8 +87,8 @@ parts_by counted by_two x v is (Some held) p are = record {
 }
 
 -- what means nothing has the parts of nothing
-pub parts_nothing : (counted : List EntityId) (m : Meaning Triple) (x : EntityId) (rev : ℕ) (bytes : Bytes) (p : NamedParts) → m x rev bytes ≡ []
-    → ArePartsOf counted m x None p → ArePartsOf counted m x (Some (record { revision = rev; content = bytes })) p
+pub parts_nothing : (counted : List EntityId) (m : Meaning Triple) (x : EntityId) (rev : ℕ) (bytes : Bytes) (p : PartLists) → m x rev bytes ≡ []
+    → AreListsOf counted m x None p → AreListsOf counted m x (Some (record { revision = rev; content = bytes })) p
 parts_nothing counted m x rev bytes p none are = record {
   own = are.own ∙ ap (filter (is_own counted x)) (sym none);
   stored = are.stored ∙ ap (filter (λ t. not (is_own counted x t))) (sym none);
@@ -141,8 +141,8 @@ module _ (s : StoreState) (pages : Texts) (names : Naming) (ids : ByVersion) (ke
   }
 
   -- what a move asks for
-  pub may_move : (n : Meaning Triple) (held : Option (Held Bytes)) (gone come : NamedParts) → map.len kept < 18446744073709551615
-      → ArePartsOf counted before x (record_of records x).held gone → ArePartsOf counted n x held come → AreCounted counted come.names.items → MayMove names gone.names.items come.names.items
+  pub may_move : (n : Meaning Triple) (held : Option (Held Bytes)) (gone come : PartLists) → map.len kept < 18446744073709551615
+      → AreListsOf counted before x (record_of records x).held gone → AreListsOf counted n x held come → AreCounted counted come.names → MayMove names gone.names come.names
   may_move n held gone come few gone_are come_are known = record {
     gone_rise = gone_are.rising;
     come_rise = come_are.rising;
@@ -164,30 +164,30 @@ module _ (s : StoreState) (pages : Texts) (names : Naming) (ids : ByVersion) (ke
     own = ap (λ (b : List EntityId). version_at b x) by2 ∙ version_own ids.by_two h.by.by_two_rises x v
 
     -- the parts are those of what it means then
-    come_then : (held : Option (Held Bytes)) (come : NamedParts) → ArePartsOf counted (meaning v) x held come → ArePartsOf counted after x held come
+    come_then : (held : Option (Held Bytes)) (come : PartLists) → AreListsOf counted (meaning v) x held come → AreListsOf counted after x held come
     come_then = parts_by counted ids2.by_two x v own
 
-    module _ (s2 : StoreState) (names2 : Naming) (keys : List Key) (gone come : NamedParts) (done : PartsExchange)
-        (gone_are : ArePartsOf counted before x (record_of records x).held gone)
+    module _ (s2 : StoreState) (names2 : Naming) (keys : List Key) (gone come : PartLists) (done : PartsExchange)
+        (gone_are : AreListsOf counted before x (record_of records x).held gone)
         (keys_are : keys ≡ keys_held (kept_of kept x).held)
-        (moved : HasMoved s s2 names names2 keys gone come done) where
-      counts : (triples : List Triple) → AreKeysOf s (keys_held (kept_of kept x).held) triples → Exchanges (counts_in s) (counts_in s2) triples come.parts.shared
+        (moved : HaveMoved s s2 names names2 keys gone come done) where
+      counts : (triples : List Triple) → AreKeysOf s (keys_held (kept_of kept x).held) triples → Exchanges (counts_in s) (counts_in s2) triples come.shared
       counts triples are = moved.exchanged.counts triples (subst (λ ks. AreKeysOf s ks triples) (sym keys_are) are)
 
       -- the change is told
       pub tells_step : (pages2 : Texts) (kept2 : KeptRecords) (r : Record Bytes) → AreInStep s2 pages2 names2 ids2 kept2 → seen pages2 kept2 ≡ map.insert records x r
-          → ArePartsOf counted (meaning v) x r.held come → IsChangeOf (union triple_cmp before records) (union triple_cmp after (seen pages2 kept2)) done.change
+          → AreListsOf counted (meaning v) x r.held come → IsChangeOf (union triple_cmp before records) (union triple_cmp after (seen pages2 kept2)) done.change
       tells_step pages2 kept2 r k seen2 come_are =
-          let come_now : ArePartsOf counted after x r.held come = come_then r.held come come_are in
+          let come_now : AreListsOf counted after x r.held come = come_then r.held come come_are in
           let put : Records = map.insert records x r in
           let here : record_of put x ≡ r = record_here records x r in
-          let own_is : sorted triple_cmp come.parts.own ≡ triples_of (own_of counted after) put x = come_now.own ∙ ap (λ (q : Record Bytes). triples_held (own_of counted after) x q.held) (sym here) in
+          let own_is : sorted triple_cmp come.own ≡ triples_of (own_of counted after) put x = come_now.own ∙ ap (λ (q : Record Bytes). triples_held (own_of counted after) x q.held) (sym here) in
           let lean : IsLean after counted (count_in (counts_in s2)) put =
           subst (λ (c : List EntityId). IsLean after c (count_in (counts_in s2)) put) moved.counted
           (subst (λ (q : Records). IsLean after (counted_by names2) (count_in (counts_in s2)) q) seen2 k.kept.lean) in
           subst (λ (q : Records). IsChangeOf (union triple_cmp before records) (union triple_cmp after q) done.change) (sym seen2)
           (step_change x counted before after (counts_in s) (counts_in s2) records put h.kept.lean lean (put_in-alike before after x agree records r)
-          (sound_owned s h.kept.sound) (sound_owned s2 moved.rest.sound) gone.parts.own come.parts.own gone_are.own own_is done.change
+          (sound_owned s h.kept.sound) (sound_owned s2 moved.rest.sound) gone.own come.own gone_are.own own_is done.change
           moved.exchanged.told
           (union_fit ids.by_two records) (union_fit ids2.by_two put))
 
@@ -197,39 +197,39 @@ module _ (s : StoreState) (pages : Texts) (names : Naming) (ids : ByVersion) (ke
           (vacant : bytes_of pages piece ≡ None)
           (placed : Updates pages pages2 piece (Some bytes))
           (freed : FreesPiece (piece_at kept x) pages2 pages3)
-          (come_are : ArePartsOf counted (meaning v) x (Some (record { revision = rev; content = bytes })) come)
-          (known : AreCounted counted come.names.items) where
+          (come_are : AreListsOf counted (meaning v) x (Some (record { revision = rev; content = bytes })) come)
+          (known : AreCounted counted come.names) where
         abbrev content : LeanPage
         content = record { piece = piece; keys = done.keys }
 
         abbrev page : Record LeanPage
         page = record { state = state; held = Some (record { revision = rev; content = content }); reconciled = reconciled }
 
-        come_now : ArePartsOf counted after x (Some (record { revision = rev; content = bytes })) come
+        come_now : AreListsOf counted after x (Some (record { revision = rev; content = bytes })) come
         come_now = come_then (Some (record { revision = rev; content = bytes })) come come_are
 
         pub page_step : ids2 ≡ moved_to ids x v → AreInStep s2 pages3 names2 ids2 (map.insert kept x page)
         page_step is = record {
-          kept = page_comes before after x agree s s2 pages pages2 pages3 names names2 kept state reconciled gone.names.items come.names.items come.parts.shared
+          kept = page_comes before after x agree s s2 pages pages2 pages3 names names2 kept state reconciled gone.names come.names come.shared
               h.kept freed moved.counted moved.named gone_are.names moved.rest.sound moved.rest.keeps counts
               rev content bytes vacant placed come_now.names known moved.exchanged.keys_are come_now.stored;
           by = subst (λ (i : ByVersion). AreBy i (holds_in (map.insert kept x page))) (sym is) (by_put ids (holds_in kept) (holds_in (map.insert kept x page)) x v h.by (others_hold kept x page) (own_holds kept x page));
         }
 
         pub page_step_seen : seen pages3 (map.insert kept x page) ≡ map.insert records x (record { state = state; held = Some (record { revision = rev; content = bytes }); reconciled = reconciled })
-        page_step_seen = page_seen before after x agree s s2 pages pages2 pages3 names names2 kept state reconciled gone.names.items come.names.items come.parts.shared
+        page_step_seen = page_seen before after x agree s s2 pages pages2 pages3 names names2 kept state reconciled gone.names come.names come.shared
             h.kept freed moved.counted moved.named gone_are.names moved.rest.sound moved.rest.keeps counts
             rev content bytes vacant placed come_now.names known moved.exchanged.keys_are come_now.stored
 
       -- ---- the same page is mapped by another version
 
-      module _ (there : is_some (kept_of kept x).held ≡ true) (come_are : ArePartsOf counted (meaning v) x (record_of records x).held come) (known : AreCounted counted come.names.items) where
-        again_now : ArePartsOf counted after x (record_of records x).held come
+      module _ (there : is_some (kept_of kept x).held ≡ true) (come_are : AreListsOf counted (meaning v) x (record_of records x).held come) (known : AreCounted counted come.names) where
+        again_now : AreListsOf counted after x (record_of records x).held come
         again_now = come_then (record_of records x).held come come_are
 
         pub again_step : ids2 ≡ moved_to ids x v → AreInStep s2 pages names2 ids2 (map.insert kept x (with_keys (kept_of kept x) done.keys))
         again_step is = record {
-          kept = page_again kept x done.keys there before after agree s s2 pages names names2 gone.names.items come.names.items come.parts.shared
+          kept = page_again kept x done.keys there before after agree s s2 pages names names2 gone.names come.names come.shared
               h.kept moved.counted moved.named gone_are.names again_now.names known moved.rest.sound moved.rest.keeps counts moved.exchanged.keys_are again_now.stored;
           by = subst (λ (i : ByVersion). AreBy i (holds_in (map.insert kept x (with_keys (kept_of kept x) done.keys)))) (sym is)
               (by_put ids (holds_in kept) _ x v h.by (others_hold kept x (with_keys (kept_of kept x) done.keys)) (own_holds kept x (with_keys (kept_of kept x) done.keys) ∙ some_keys (kept_of kept x).held done.keys there));
@@ -237,11 +237,11 @@ module _ (s : StoreState) (pages : Texts) (names : Naming) (ids : ByVersion) (ke
 
   -- ---- what was held goes
 
-  module _ (ids2 : ByVersion) (is : ids2 ≡ moved_out ids x) (s2 : StoreState) (names2 : Naming) (keys : List Key) (gone come : NamedParts) (done : PartsExchange)
-      (gone_are : ArePartsOf counted before x (record_of records x).held gone)
-      (come_are : (m : Meaning Triple) → ArePartsOf counted m x None come)
+  module _ (ids2 : ByVersion) (is : ids2 ≡ moved_out ids x) (s2 : StoreState) (names2 : Naming) (keys : List Key) (gone come : PartLists) (done : PartsExchange)
+      (gone_are : AreListsOf counted before x (record_of records x).held gone)
+      (come_are : (m : Meaning Triple) → AreListsOf counted m x None come)
       (keys_are : keys ≡ keys_held (kept_of kept x).held)
-      (moved : HasMoved s s2 names names2 keys gone come done)
+      (moved : HaveMoved s s2 names names2 keys gone come done)
       (pages2 : Texts) (state : State) (reconciled : Option Event) (freed : FreesPiece (piece_at kept x) pages pages2) where
     out2 : ids2.by_two ≡ with_version One x ids.by_two
     out2 = ap (λ (i : ByVersion). i.by_two) is
@@ -249,19 +249,19 @@ module _ (s : StoreState) (pages : Texts) (names : Naming) (ids : ByVersion) (ke
     abbrev none : Record LeanPage
     none = record { state = state; held = None; reconciled = reconciled }
 
-    none_shared : (t : Triple) → has triple_cmp t come.parts.shared ≡ has triple_cmp t []
-    none_shared t = sym (has-sorted triple_cmp-total t come.parts.shared) ∙ ap (has triple_cmp t) (come_are before).stored
+    none_shared : (t : Triple) → has triple_cmp t come.shared ≡ has triple_cmp t []
+    none_shared t = sym (has-sorted triple_cmp-total t come.shared) ∙ ap (has triple_cmp t) (come_are before).stored
 
     pub gone_step : AreInStep s2 pages2 names2 ids2 (map.insert kept x none)
     gone_step = record {
-      kept = page_goes before (after One ids2 out2) x (agree One ids2 out2) s s2 pages pages pages2 names names2 kept state reconciled gone.names.items come.names.items come.parts.shared
+      kept = page_goes before (after One ids2 out2) x (agree One ids2 out2) s s2 pages pages pages2 names names2 kept state reconciled gone.names come.names come.shared
           h.kept freed moved.counted moved.named gone_are.names moved.rest.sound moved.rest.keeps (counts One ids2 out2 s2 names2 keys gone come done gone_are keys_are moved)
           (λ p. refl) (come_are before).names none_shared;
       by = subst (λ (i : ByVersion). AreBy i (holds_in (map.insert kept x none))) (sym is) (by_drop ids (holds_in kept) (holds_in (map.insert kept x none)) x h.by (others_hold kept x none) (own_holds kept x none));
     }
 
     pub gone_step_seen : seen pages2 (map.insert kept x none) ≡ map.insert records x (record { state = state; held = None; reconciled = reconciled })
-    gone_step_seen = gone_seen before (after One ids2 out2) x (agree One ids2 out2) s s2 pages pages pages2 names names2 kept state reconciled gone.names.items come.names.items come.parts.shared
+    gone_step_seen = gone_seen before (after One ids2 out2) x (agree One ids2 out2) s s2 pages pages pages2 names names2 kept state reconciled gone.names come.names come.shared
         h.kept freed moved.counted moved.named gone_are.names moved.rest.sound moved.rest.keeps (counts One ids2 out2 s2 names2 keys gone come done gone_are keys_are moved)
         (λ p. refl) (come_are before).names none_shared
 

@@ -30,6 +30,16 @@ pub not_itself : (x : EntityId) (ts : List Triple) → has entity_cmp x (strange
 not_itself x [] = refl
 not_itself x (t ∷ ts) = has-append entity_cmp x (stranger x (home_of t)) (strangers x ts) ∙ or_false _ _ (no_stranger x (home_of t)) (not_itself x ts)
 
+-- a page names what it names
+pub some_named : (m : Meaning Triple) (names : Naming) (records : Records) → ((y : EntityId) → pages_naming names y ≡ owners entity_cmp (strangers_on m) records y)
+    → (x y : EntityId) → has entity_cmp y (strangers x (triples_of m records x)) ≡ true → 0 < pages_naming names y
+some_named m names records named x y there =
+    let here : has entity_cmp y (triples_held (strangers_on m) x (record_of records x).held) ≡ true = ap (has entity_cmp y) (named_held m x (record_of records x).held) ∙ there in
+    let gone : owners entity_cmp (strangers_on m) (map.insert records x blank) y + one_if (has entity_cmp y (triples_held (strangers_on m) x (record_of records x).held)) ≡ owners entity_cmp (strangers_on m) records y + 0 = moved (strangers_on m) records x blank y in
+    let one : one_if (has entity_cmp y (triples_held (strangers_on m) x (record_of records x).held)) ≡ 1 = ap one_if here in
+    let count : pages_naming names y ≡ owners entity_cmp (strangers_on m) records y = named y in
+    omega arith
+
 module _ (m : Meaning Triple) (s : StoreState) (pages : Texts) (names : Naming) (kept : KeptRecords) (h : IsKept m s pages names kept) where
   -- no more pages name an entity than there are
   pub few_name : (n : ℕ) → map.len kept < n → (y : EntityId) → pages_naming names y < n
@@ -41,12 +51,6 @@ module _ (m : Meaning Triple) (s : StoreState) (pages : Texts) (names : Naming) 
       let count : pages_naming names y ≡ owners entity_cmp (strangers_on m) records y = h.named y in
       omega arith
 
-  -- a page names what it names
+  -- the same where all is in step
   pub some_names : (x y : EntityId) → has entity_cmp y (strangers x (triples_of m (seen pages kept) x)) ≡ true → 0 < pages_naming names y
-  some_names x y there =
-      let records : Records = seen pages kept in
-      let here : has entity_cmp y (triples_held (strangers_on m) x (record_of records x).held) ≡ true = ap (has entity_cmp y) (named_held m x (record_of records x).held) ∙ there in
-      let gone : owners entity_cmp (strangers_on m) (map.insert records x blank) y + one_if (has entity_cmp y (triples_held (strangers_on m) x (record_of records x).held)) ≡ owners entity_cmp (strangers_on m) records y + 0 = moved (strangers_on m) records x blank y in
-      let one : one_if (has entity_cmp y (triples_held (strangers_on m) x (record_of records x).held)) ≡ 1 = ap one_if here in
-      let count : pages_naming names y ≡ owners entity_cmp (strangers_on m) records y = h.named y in
-      omega arith
+  some_names x y there = some_named m names (seen pages kept) h.named x y there

@@ -1,5 +1,6 @@
 pub mod Changing
 pub mod Codes
+pub mod Coming
 pub mod Freeing
 pub mod Going
 pub mod Holding

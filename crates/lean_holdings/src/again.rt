@@ -13,11 +13,12 @@ ghost use Rattle.lean_holdings.specs.Changing.{IsChangeOf, counted_with, held_tr
 ghost use Rattle.lean_holdings.specs.{Holding.counted_by, Moving.ArePartsOf};
 
 use crate::holdings::LeanHoldings;
-use crate::parts::{NamedParts, named_parts};
+use crate::parts::named_parts;
 use entity_model::{EntityId, MappingVersion};
 use entity_state::Standing;
 use fetched_pages::Wanted;
 use page_packing::Unpacker;
+use page_parts::NamedParts;
 use parts_exchange::PartsChange;
 use triple_store::StoreFault;
 
@@ -63,7 +64,7 @@ impl LeanHoldings {
     }
 
     // `hold` after those that no page names are counted out.
-    fn hold_again(
+    pub(crate) fn hold_again(
         &mut self,
         wanted: Wanted,
         after: Standing,

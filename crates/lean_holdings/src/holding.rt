@@ -3,29 +3,28 @@
 ghost use Rattle.std.specs.Prelude.{◌≡◌, ◌⊎◌, ◌<◌, ◌≤◌, ◌||◌, ◌++◌, List, [], false, true, None, Some, Err, IfOk, OnErr, OnOk, length};
 ghost use Rattle.std.specs.FinMap as map;
 ghost use Rattle.sorted_sets.specs.Rising.{has};
-ghost use Rattle.rdf_term.specs.declared.triple.Triple.{Triple};
 ghost use Rattle.term_pool.specs.declared.fault.PoolFault.TheVariants.{Full};
 ghost use Rattle.entity_model.specs.{EntityId.entity_cmp, declared.id.EntityId.EntityId as TheId};
 ghost use Rattle.entity_model.specs.declared.mapping.MappingVersion.TheVariants.{One};
-ghost use Rattle.replay_model.specs.{Records.record_of, Union.Meaning, Versions.is_holder, Versions.meaning_by, Versions.with_version};
-ghost use Rattle.fetched_pages.specs.Meaning.{meaning};
-ghost use Rattle.shared_triples.specs.Lean.{AreCounted, stored_of};
+ghost use Rattle.replay_model.specs.{Records.record_of, Versions.is_holder, Versions.meaning_by, Versions.with_version};
+ghost use Rattle.fetched_pages.specs.{Fetched.IsFetched, Fetched.bytes_of, Meaning.meaning};
+ghost use Rattle.shared_triples.specs.Lean.{stored_of};
 ghost use Rattle.entity_counts.specs.Naming.{pages_naming};
 ghost use Rattle.lean_holdings.specs.Changing.{IsChangeOf, counted_with, held_triples, needs, needs_of};
 ghost use Rattle.holders.specs.Roomed.{room_with};
 ghost use Rattle.lean_holdings.specs.{Holding.counted_by, Moving.ArePartsOf};
 
 use crate::holdings::LeanHoldings;
-use crate::kept::{LeanPage, held_of, keys_of};
-use crate::moving::{Moving, move_parts};
-use crate::parts::{NamedParts, named_parts, no_change, no_parts};
-use crate::records::{make_room, replace, version_in};
-use entity_model::{EntityId, MappingVersion};
-use entity_state::{Held, Standing};
-use fetched_pages::Wanted;
-use holders::other;
+use crate::kept::held_of;
+use crate::moving::{Coming, Moving};
+use crate::parts::{fetched_difference, fetched_parts, named_parts, no_change, no_parts};
+use crate::records::version_in;
+use entity_model::EntityId;
+use entity_state::Standing;
+use fetched_pages::{FetchedPage, Wanted};
 use page_packing::Unpacker;
-use parts_exchange::{PartsChange, PartsExchange};
+use page_parts::NamedParts;
+use parts_exchange::PartsChange;
 use rdf_term::OutOfMemory;
 use triple_store::StoreFault;
 
@@ -39,13 +38,14 @@ impl LeanHoldings {
         &mut self,
         wanted: Wanted,
         after: Standing,
-        page: &[u8],
+        page: &FetchedPage,
         buffer: &mut Unpacker,
     ) -> Result<PartsChange, StoreFault>
-        requires short { length page.now ≤ 8388608 }
+        requires fetched { IsFetched self.old.records self.old.by_two wanted.version wanted.id wanted.rev page.now }
+        requires short { length (bytes_of page.now) ≤ 8388608 }
         ensures records { OnOk result (self.new.records ≡ map.insert self.old.records wanted.id (record {
           state = after.state;
-          held = Some (record { revision = wanted.rev; content = page.now });
+          held = Some (record { revision = wanted.rev; content = bytes_of page.now });
           reconciled = after.reconciled;
         })) }
         ensures by_two { OnOk result (self.new.by_two ≡ with_version wanted.version wanted.id self.old.by_two) }
@@ -56,18 +56,25 @@ impl LeanHoldings {
         ensures err_named { OnErr result ((x : TheId) → pages_naming self.new.names x ≡ pages_naming self.old.names x) }
         ensures counted { (x : TheId) → has entity_cmp x (counted_by self.new.names) ≡ true →
             has entity_cmp x (counted_with (counted_by self.old.names) wanted.id
-            (meaning wanted.version wanted.id wanted.rev page.now)) ≡ true }
+            (meaning wanted.version wanted.id wanted.rev (bytes_of page.now))) ≡ true }
         ensures full { result ≡ Err Full →
             self.old.limit < needs_of (meaning_by meaning self.old.by_two) (meaning wanted.version) self.old.records wanted.id
-            (Some (record { revision = wanted.rev; content = page.now })) }
+            (Some (record { revision = wanted.rev; content = bytes_of page.now })) }
         ensures within { OnOk result (needs_of (meaning_by meaning self.old.by_two) (meaning wanted.version) self.old.records wanted.id
-            (Some (record { revision = wanted.rev; content = page.now })) ≤ self.old.limit) }
+            (Some (record { revision = wanted.rev; content = bytes_of page.now })) ≤ self.old.limit) }
     {
+        let bytes = page.bytes();
         let is_counted = self.names.is_counted(wanted.id);
-        let Ok(come) = named_parts(self.alloc, wanted, page, is_counted) else {
+        if let Some(difference) = fetched_difference(page, is_counted) {
+            return self.hold_difference(wanted, after, bytes, difference, buffer);
+        }
+        if let Some(come) = fetched_parts(page, is_counted) {
+            return self.hold_with(wanted, after, bytes, come, buffer);
+        }
+        let Ok(come) = named_parts(self.alloc, wanted, bytes, is_counted) else {
             return Err(StoreFault::OutOfMemory);
         };
-        let held = self.hold_with(wanted, after, page, &come, buffer);
+        let held = self.hold_with(wanted, after, bytes, &come, buffer);
         drop(come);
         held
     }
@@ -105,7 +112,8 @@ impl LeanHoldings {
     {
         match self.make_ready(wanted.id, come.names.as_slice(), buffer) {
             Ok(gone) => {
-                let held = self.put_page(wanted, after, page, &gone, come);
+                let coming = Coming::Whole(Moving { gone: &gone, come });
+                let held = self.put_page(wanted, after, page, coming);
                 self.count_out_rest(held.is_ok(), &gone, come, buffer);
                 drop(gone);
                 held
@@ -203,114 +211,6 @@ impl LeanHoldings {
         match self.held_parts(id, version, buffer) {
             Ok(gone) => Ok(gone),
             Err(OutOfMemory) => Err(StoreFault::OutOfMemory),
-        }
-    }
-
-    // Sets the record of an entity, which holds a page from now on, whose parts these are, in the place of those that it held. All that
-    // the page names are counted. After a fault nothing has changed.
-    fn put_page<'x>(
-        &mut self,
-        wanted: Wanted,
-        after: Standing,
-        page: &[u8],
-        gone: &'x NamedParts,
-        come: &'x NamedParts,
-    ) -> Result<PartsChange, StoreFault>
-        requires short { length page.now ≤ 8388608 }
-        requires gone { ArePartsOf (counted_by self.old.names) (meaning_by meaning self.old.by_two) wanted.id
-            (record_of self.old.records wanted.id).held gone.now }
-        requires come { ArePartsOf (counted_by self.old.names) (meaning wanted.version) wanted.id
-            (Some (record { revision = wanted.rev; content = page.now })) come.now }
-        requires known { AreCounted (counted_by self.old.names) come.now.names.items }
-        ensures records { OnOk result (self.new.records ≡ map.insert self.old.records wanted.id (record {
-          state = after.state;
-          held = Some (record { revision = wanted.rev; content = page.now });
-          reconciled = after.reconciled;
-        })) }
-        ensures by_two { OnOk result (self.new.by_two ≡ with_version wanted.version wanted.id self.old.by_two) }
-        ensures change { IfOk result (IsChangeOf (held_triples self.old) (held_triples self.new)) }
-        ensures counted { OnOk result (counted_by self.new.names ≡ counted_by self.old.names) }
-        ensures limit { self.new.limit ≡ self.old.limit }
-        ensures err { OnErr result (self.new ≡ self.old) }
-        ensures full { result ≡ Err Full → self.old.limit
-            < room_with (stored_of (counted_by self.old.names) (meaning_by meaning self.old.by_two)) self.old.records
-            come.now.parts.shared }
-        ensures within { OnOk result (room_with (stored_of (counted_by self.old.names) (meaning_by meaning self.old.by_two))
-            self.old.records come.now.parts.shared ≤ self.old.limit) }
-    {
-        let id = wanted.id;
-        if make_room(&mut self.table, id).is_err() {
-            return Err(StoreFault::OutOfMemory);
-        }
-        // At most as many pages have a triple, or name an entity, as there are records, so no count is saturated.
-        let entities = self.table.len();
-        prove!(entities < usize::MAX);
-        let Ok(added) = self.holders.add(id, wanted.version) else {
-            return Err(StoreFault::OutOfMemory);
-        };
-        let Ok(piece) = self.pages.put(page) else {
-            self.holders.take_back(id, wanted.version, added);
-            return Err(StoreFault::OutOfMemory);
-        };
-        let keys = keys_of(&self.table, id);
-        let moving = Moving { gone, come };
-        match move_parts(self.alloc, &mut self.store, &mut self.names, keys, moving) {
-            Ok(PartsExchange { keys, change }) => {
-                let held = Held {
-                    revision: wanted.rev,
-                    content: LeanPage { piece, keys },
-                };
-                replace(&mut self.pages, &mut self.table, id, after, Some(held));
-                self.holders.remove(id, other(wanted.version));
-                Ok(change)
-            }
-            Err(refused) => {
-                self.pages.free(piece);
-                self.holders.take_back(id, wanted.version, added);
-                Err(refused)
-            }
-        }
-    }
-
-    // Sets the record of an entity, which holds nothing from now on; these are the parts of what it held, and those of nothing. After
-    // `OutOfMemory` nothing has changed.
-    fn put_nothing<'x>(
-        &mut self,
-        id: EntityId,
-        after: Standing,
-        gone: &'x NamedParts,
-        come: &'x NamedParts,
-    ) -> Result<PartsChange, OutOfMemory>
-        requires gone { ArePartsOf (counted_by self.old.names) (meaning_by meaning self.old.by_two) id
-            (record_of self.old.records id).held gone.now }
-        requires come { (counted : List TheId) (m : Meaning Triple) → ArePartsOf counted m id None come.now }
-        ensures records { OnOk result (self.new.records ≡ map.insert self.old.records id (record {
-          state = after.state;
-          held = None;
-          reconciled = after.reconciled;
-        })) }
-        ensures by_two { OnOk result (self.new.by_two ≡ with_version One id self.old.by_two) }
-        ensures change { IfOk result (IsChangeOf (held_triples self.old) (held_triples self.new)) }
-        ensures counted { OnOk result (counted_by self.new.names ≡ counted_by self.old.names) }
-        ensures limit { self.new.limit ≡ self.old.limit }
-        ensures err { OnErr result (self.new ≡ self.old) }
-    {
-        let Ok(()) = make_room(&mut self.table, id) else {
-            return Err(OutOfMemory);
-        };
-        let entities = self.table.len();
-        prove!(entities < usize::MAX);
-        let keys = keys_of(&self.table, id);
-        let moving = Moving { gone, come };
-        match move_parts(self.alloc, &mut self.store, &mut self.names, keys, moving) {
-            Ok(PartsExchange { keys, change }) => {
-                drop(keys);
-                replace(&mut self.pages, &mut self.table, id, after, None);
-                self.holders.remove(id, MappingVersion::One);
-                self.holders.remove(id, MappingVersion::Two);
-                Ok(change)
-            }
-            Err(_) => Err(OutOfMemory),
         }
     }
 }

@@ -7,11 +7,11 @@ ghost use Rattle.sorted_sets.specs.Rising.{has, sorted};
 ghost use Rattle.rdf_term.specs.{Fit.HasFitAndShortTerms, Order.triple_cmp};
 ghost use Rattle.term_pool.specs.declared.fault.PoolFault.TheVariants.{Full};
 ghost use Rattle.entity_state.specs.Standing.{standing_of};
-ghost use Rattle.replay_model.specs.{Records.record_of, Union.owners, Versions.meaning_by};
+ghost use Rattle.replay_model.specs.{Records.record_of, Union.owners, Versions.meaning_by, Versions.version_at};
 ghost use Rattle.fetched_pages.specs.Meaning.{meaning};
 ghost use Rattle.shared_triples.specs.Lean.{stored_of, triples_of};
 ghost use Rattle.entity_model.specs.{EntityId.entity_cmp, declared.id.EntityId.EntityId as TheId};
-ghost use Rattle.entity_counts.specs.Naming.{counted_in, pages_naming};
+ghost use Rattle.entity_counts.specs.Naming.{counted_in, is_counted, pages_naming};
 ghost use Rattle.holders.specs.{Holding.AreHolders, Roomed.HasRoom, Roomed.room_with};
 ghost use Rattle.lean_holdings.specs.{Changing.shared_by, Holding.counted_by, Holding.strangers_on};
 
@@ -19,7 +19,7 @@ use crate::counting::{count_page, meant_texts};
 use crate::kept::LeanPage;
 use crate::records::{keep_record, make_room, read_held, standing_in, version_in};
 use entity_counts::EntityCounts;
-use entity_model::EntityId;
+use entity_model::{EntityId, MappingVersion};
 use entity_state::{Standing, Table};
 use fetched_pages::Wanted;
 use holders::{Holders, discard_store};
@@ -106,6 +106,20 @@ impl LeanHoldings {
         ensures { result ≡ standing_of (record_of self.now.records id) }
     {
         standing_in(&self.table, id)
+    }
+
+    /// Whether an entity is counted, since another's page names it.
+    pub fn is_counted(&self, id: EntityId) -> bool
+        ensures { result ≡ is_counted self.now.names id }
+    {
+        self.names.is_counted(id)
+    }
+
+    /// The version by which the page of an entity is mapped, if it holds one.
+    pub fn version_of(&self, id: EntityId) -> MappingVersion
+        ensures { result ≡ version_at self.now.by_two id }
+    {
+        version_in(&self.holders, id)
     }
 
     /// The revision that an entity holds, whose bytes are unpacked into a buffer. After `OutOfMemory`, and where nothing is held, the

@@ -25,14 +25,3 @@ pub fn move_names(names: &mut EntityCounts, gone: &[EntityId], come: &[EntityId]
     names.raise(come);
     names.lower(gone);
 }
-
-/// The entities in rising order, each once.
-pub fn in_order(alloc: Global, ids: &[EntityId]) -> Result<Vec<EntityId>, OutOfMemory>
-    ensures { IfOk result (λ ordered. ordered.items ≡ sorted entity_cmp ids.now) }
-{
-    let mut ordered = Vec::new(alloc);
-    ordered.extend_from_slice(ids)?;
-    ordered.sort_unstable();
-    ordered.dedup();
-    Ok(ordered)
-}

@@ -1,41 +1,31 @@
 // The parts of a page, with the entities that it names.
 
-ghost use Rattle.std.specs.Prelude.{◌≡◌, [], None, Some, List, IfErr, IfOk};
+ghost use Rattle.std.specs.Prelude.{◌≡◌, ℕ, [], None, Some, List, IfErr, IfOk, IfSome};
 ghost use Rattle.sorted_sets.specs.Rising.{has};
 ghost use Rattle.rdf_term.specs.declared.triple.Triple.{Triple};
 ghost use Rattle.entity_model.specs.{EntityId.entity_cmp, declared.id.EntityId.EntityId as TheId};
-ghost use Rattle.replay_model.specs.Union.{Meaning};
+ghost use Rattle.entity_model.specs.declared.mapping.MappingVersion.{MappingVersion};
+ghost use Rattle.replay_model.specs.{Records.Records, Records.record_of, Union.Meaning, Union.triples_held, Versions.meaning_by};
 ghost use Rattle.entity_json.specs.Document.{unfit_of};
-ghost use Rattle.fetched_pages.specs.{Fetched.IsWhy, Meaning.meaning};
+ghost use Rattle.fetched_pages.specs.{Fetched.IsFetched, Fetched.IsWhy, Fetched.bytes_of, Meaning.meaning};
+ghost use Rattle.page_parts.specs.Apart.{AreApart};
 ghost use Rattle.triple_catalog.specs.Lines.{AreLinesOf};
 ghost use Rattle.lean_holdings.specs.{Changing.IsChangeOf, Moving.ArePartsOf};
 
-use crate::names::in_order;
 use entity_json::DocumentFault;
 use entity_model::EntityId;
-use fetched_pages::Wanted;
-use page_parts::{PageParts, parts_in};
-use page_rows::RowChange;
+use fetched_pages::{FetchedPage, Wanted, parts_in};
+use page_parts::{NamedParts, PageDifference, RowChange};
 use parts_exchange::PartsChange;
 use rdf_term::OutOfMemory;
 use std::alloc::Global;
 use triple_store::{Change, TripleLines};
 
-/// The parts of a page, and the other entities that it names, in rising order.
-#[derive(Drop)]
-pub struct NamedParts {
-    pub parts: PageParts,
-    pub names: Vec<EntityId>,
-}
-
 /// The parts of nothing. They take no memory.
 pub fn no_parts(alloc: Global, id: EntityId) -> NamedParts
     ensures { (counted : List TheId) (m : Meaning Triple) → ArePartsOf counted m id None result }
 {
-    NamedParts {
-        parts: PageParts::new(alloc, id, false),
-        names: Vec::new(alloc),
-    }
+    NamedParts::none(alloc, id)
 }
 
 /// No change. It takes no memory.
@@ -77,18 +67,49 @@ pub fn document_parts(
     ensures err { IfErr result (IsWhy wanted.id bytes.now) }
 {
     match parts_in(alloc, wanted, bytes, is_counted) {
-        Ok(parts) => match in_order(alloc, parts.strangers()) {
-            Ok(names) => Ok(NamedParts { parts, names }),
-            Err(OutOfMemory) => {
-                drop(parts);
-                Err(DocumentFault::OutOfMemory)
-            }
-        },
+        Ok(parts) => Ok(parts),
         Err(fault) => Err(fault),
     }
 }
 
-/// The same, and the parts of nothing where the bytes are no document.
+/// The parts that a fetched page has, where its entity is counted or isn't, as is said.
+pub fn fetched_parts(page: &FetchedPage, is_counted: bool) -> Option<&NamedParts>
+    ensures { (counted : List TheId) (records : Records) (by_two : List TheId) (version : MappingVersion) (x : TheId) (rev : ℕ) →
+        has entity_cmp x counted ≡ is_counted → IsFetched records by_two version x rev page.now →
+        IfSome result (λ parts. ArePartsOf counted (meaning version) x (Some (record { revision = rev; content = bytes_of page.now })) parts.now) }
+{
+    match page {
+        FetchedPage::Parted(page) => {
+            if page.is_counted == is_counted {
+                Some(&page.parts)
+            } else {
+                None
+            }
+        }
+        FetchedPage::Whole(_) | FetchedPage::Changed(_) | FetchedPage::Differing(_) => None,
+    }
+}
+
+/// What a fetched page and the one that its entity holds have of their own, where that is known, and the entity is counted or isn't, as is
+/// said.
+pub fn fetched_difference(page: &FetchedPage, is_counted: bool) -> Option<&PageDifference>
+    ensures { (records : Records) (by_two : List TheId) (version : MappingVersion) (x : TheId) (rev : ℕ) →
+        IsFetched records by_two version x rev page.now → IfSome result (λ difference. AreApart x is_counted
+        (triples_held (meaning_by meaning by_two) x (record_of records x).held) (meaning version x rev (bytes_of page.now)) difference.now) }
+{
+    match page {
+        FetchedPage::Differing(page) => {
+            if page.is_counted == is_counted {
+                Some(&page.difference)
+            } else {
+                None
+            }
+        }
+        FetchedPage::Whole(_) | FetchedPage::Changed(_) | FetchedPage::Parted(_) => None,
+    }
+}
+
+/// The parts of the page that bytes are, and those of nothing where they are no document.
 pub fn named_parts(
     alloc: Global,
     wanted: Wanted,

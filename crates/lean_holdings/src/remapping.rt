@@ -17,11 +17,11 @@ ghost use Rattle.holders.specs.Holding.{first_of, stale_by, version_in};
 use crate::holdings::LeanHoldings;
 use crate::kept::keys_of;
 use crate::moving::{Moving, move_parts};
-use crate::parts::NamedParts;
 use crate::storing::set_keys;
 use entity_model::{EntityId, MappingVersion};
 use holders::other;
 use page_packing::Unpacker;
+use page_parts::NamedParts;
 use parts_exchange::{PartsChange, PartsExchange};
 use triple_store::StoreFault;
 

@@ -11,11 +11,12 @@ ghost use Rattle.lean_holdings.specs.{Holding.counted_by, Moving.ArePartsOf};
 
 use crate::counting::uncount_page;
 use crate::holdings::LeanHoldings;
-use crate::parts::{NamedParts, named_parts, no_parts};
+use crate::parts::{named_parts, no_parts};
 use crate::records::version_in;
 use entity_model::{EntityId, MappingVersion};
 use fetched_pages::Wanted;
 use page_packing::Unpacker;
+use page_parts::NamedParts;
 use rdf_term::OutOfMemory;
 
 impl LeanHoldings {

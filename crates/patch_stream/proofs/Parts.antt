@@ -1,5 +1,5 @@
 -- The lines of both parts of a change, merged, are those of the change.
-use Rattle.std.proofs.Common.{◌≡◌, refl, sym, ◌∙◌, ap, ℕ, zero, suc, ◌+◌, ◌<◌, Bool, true, false, ◌||◌, nat_lt, List, [], ◌∷◌, ◌++◌, length, flat_map, Less, Equal, Greater, is_eq, Result, Ok, Err, subst, arith, length-append, true≢false}
+use Rattle.std.proofs.Common.{◌≡◌, refl, sym, ◌∙◌, ap, ℕ, zero, suc, ◌+◌, ◌<◌, Bool, true, false, ◌||◌, ◌⊎◌, inl, inr, ⊎_elim, nat_lt, List, [], ◌∷◌, ◌++◌, length, flat_map, Less, Equal, Greater, is_eq, Result, Ok, Err, subst, arith, append-nil, length-append, true≢false}
 use Rattle.std.specs.{BTreeSet.insert_key, Ordering.eq_by_cmp, Ordering.match_ordering}
 use Rattle.std.proofs.lemmas.Bool.Decides.{Decides-ltb}
 use Rattle.sorted_sets.specs.Rising.{IsRising, difference, has, sorted}
@@ -17,7 +17,7 @@ use Rattle.lean_holdings.specs.Changing.{IsChangeOf}
 use Rattle.replica.specs.{declared.head.Head.Head, Head.head_line, Record.record_text}
 use Rattle.replica.proofs.Records.{record_parts}
 use Rattle.text_output.specs.{declared.write.Unwritten.Unwritten, Printing.Output, Printing.Prints, Printing.Puts}
-use Rattle.text_output.proofs.Parts.{IsWriting, not_handed, prints_both, prints_first, some_text, writing_done, writing_nothing}
+use Rattle.text_output.proofs.Parts.{IsWriting, not_handed, prints_both, prints_first, some_text, writing_nothing}
 use Rattle.patch_stream.specs.Stream.{merged_text, record_of_step, step}
 use Rattle.patch_stream.proofs.Texts.{writing_cut_short, writing_line}
 
@@ -187,11 +187,26 @@ module _ (first second left right : List ℕ) (old between : Output) (so_far : M
       let step = n some others are those ordered orders in
       writing_cut_short why (merged_text some others) next.line.now (merged_text step.left step.right) old between new (standing some others are those ordered orders) put
 
--- nothing is left
-pub merging_done : (first second left right : List ℕ) (old new : Output) → length left ≡ 0 → length right ≡ 0 → MergesOn first second left right old new
-    → (some others : List Triple) → first ≡ flat_map triple_text some → second ≡ flat_map triple_text others → AreOrderedLines some → AreOrderedLines others → Puts (merged_text some others) old new (Ok tt)
-merging_done first second left right old new no_left no_right so_far some others are those ordered orders =
+-- where one of both lists is empty, the other one is merged already
+merged_alone : (some others : List Triple) → AreOrderedLines some → AreOrderedLines others → (some ≡ []) ⊎ (others ≡ []) → merged_text some others ≡ flat_map triple_text some ++ flat_map triple_text others
+merged_alone some others ordered orders either = ⊎_elim
+    (λ (none : some ≡ []). ap (λ l. merged_text l others) none ∙ ap (flat_map triple_text) (sorted_rising triple_cmp-total triple_cmp-IsAntisymmetric others orders.rising)
+    ∙ ap (λ l. flat_map triple_text l ++ flat_map triple_text others) (sym none))
+    (λ (none : others ≡ []). ap (merged_text some) none ∙ ap (λ l. flat_map triple_text (sorted triple_cmp l)) (append-nil some)
+    ∙ ap (flat_map triple_text) (sorted_rising triple_cmp-total triple_cmp-IsAntisymmetric some ordered.rising)
+    ∙ sym (append-nil (flat_map triple_text some)) ∙ ap (λ l. flat_map triple_text some ++ flat_map triple_text l) (sym none))
+    either
+
+-- one text is empty, and the other one is written
+pub merging_done : (result : Result (Unit {0}) Unwritten) (first second left right : List ℕ) (old between new : Output) → (length left ≡ 0) ⊎ (length right ≡ 0) → MergesOn first second left right old between
+    → Puts (left ++ right) between new result
+    → (some others : List Triple) → first ≡ flat_map triple_text some → second ≡ flat_map triple_text others → AreOrderedLines some → AreOrderedLines others → Puts (merged_text some others) old new result
+merging_done result first second left right old between new either so_far put some others are those ordered orders =
     let m = so_far some others are those ordered orders in
-    let none = empty_lines m.some_left left m.left_is m.ordered no_left in
-    let nothing = empty_lines m.others_left right m.right_is m.orders no_right in
-    writing_done (merged_text some others) (merged_text m.some_left m.others_left) old new m.writing (λ i. length (merged_text (none i) (nothing i)))
+    let empty : (m.some_left ≡ []) ⊎ (m.others_left ≡ []) = ⊎_elim
+    (λ (none : length left ≡ 0). inl (empty_lines m.some_left left m.left_is m.ordered none))
+    (λ (none : length right ≡ 0). inr (empty_lines m.others_left right m.right_is m.orders none))
+    either in
+    let rest : left ++ right ≡ merged_text m.some_left m.others_left = (λ i. m.left_is i ++ m.right_is i) ∙ sym (merged_alone m.some_left m.others_left m.ordered m.orders empty) in
+    let w = m.writing in
+    rw w.is (prints_both result w.written (merged_text m.some_left m.others_left) old between new w.puts (subst (λ l. Puts l between new result) rest put))

@@ -1,6 +1,6 @@
 // The record of a step is printed.
 
-ghost use Rattle.std.specs.Prelude.{◌≡◌, ◌≢◌, ◌≤◌, ◌<◌, ◌+◌, ◌^◌, ℕ, true, List, ◌++◌, ◌∷◌, ◌==◌, ◌||◌, nat_lt, flat_map, [], length, position, string_bytes, IfOk, IfSome, MatchOption};
+ghost use Rattle.std.specs.Prelude.{◌≡◌, ◌≢◌, ◌⊎◌, ◌≤◌, ◌<◌, ◌+◌, ◌^◌, ℕ, true, false, List, ◌++◌, ◌∷◌, ◌==◌, ◌||◌, nat_lt, flat_map, [], length, position, string_bytes, IfOk, IfSome, IsTrue, MatchOption};
 ghost use Rattle.rdf_term.specs.{declared.triple.Triple.Triple, Text.triple_text};
 ghost use Rattle.replica.specs.Head.{head_line};
 ghost use Rattle.replica.specs.Record.{record_text};
@@ -211,13 +211,29 @@ fn print_merged<K: Sink>(first: &[u8], second: &[u8], out: &mut K) -> Result<(),
 {
     let mut left = first;
     let mut right = second;
-    while !left.is_empty() || !right.is_empty() {
+    while are_both(left, right) {
         let next = next_line(left, right);
         write_all(next.line, out)?;
         left = next.left;
         right = next.right;
     }
-    Ok(())
+    print_both(left, right, out)
+}
+
+// Whether neither text is empty.
+fn are_both(left: &[u8], right: &[u8]) -> bool
+    ensures both { IsTrue result → 0 < length left.now + length right.now }
+    ensures either { result ≡ false → (length left.now ≡ 0) ⊎ (length right.now ≡ 0) }
+{
+    !left.is_empty() && !right.is_empty()
+}
+
+// Writes one text and then the other.
+fn print_both<K: Sink>(left: &[u8], right: &[u8], out: &mut K) -> Result<(), Unwritten>
+    ensures { Puts (left.now ++ right.now) (output K.Sink out.old) (output K.Sink out.new) result }
+{
+    write_all(left, out)?;
+    write_all(right, out)
 }
 
 // Where the first line of a text ends, its line feed included; that of a text without a line feed ends where the text does.

@@ -1,8 +1,11 @@
 // Pages whose triples are stored where two pages may share them: what each step changes is told of what stood alone, and of what is stored.
 
+ghost use Rattle.std.specs.Prelude.{IfSome};
+ghost use Rattle.fetched_pages.specs.Fetched.{IsFetched, IsPageOf};
+
 use crate::tester::{Tester, write_text};
 use entity_model::{EntityId, MappingVersion};
-use fetched_pages::Wanted;
+use fetched_pages::{FetchedPage, Page, Wanted, judge};
 use lean_holdings::{LeanHoldings, discard};
 use page_packing::Unpacker;
 use parts_exchange::PartsChange;
@@ -78,7 +81,7 @@ fn write_changes(alloc: Global, keys: RandomState, found: &mut Vec<u8>) -> Optio
     let mut taken = Some(());
     for step in STEPS.lines() {
         if taken.is_some() {
-            taken = take_step(&mut holdings, &mut buffer, step, found);
+            taken = take_step(alloc, &mut holdings, &mut buffer, step, found);
         }
     }
     drop(buffer);
@@ -88,6 +91,7 @@ fn write_changes(alloc: Global, keys: RandomState, found: &mut Vec<u8>) -> Optio
 
 // Takes a step, and writes what it changes.
 fn take_step(
+    alloc: Global,
     holdings: &mut LeanHoldings,
     buffer: &mut Unpacker,
     step: &str,
@@ -98,20 +102,47 @@ fn take_step(
     let id = EntityId::read(id)?;
     let rev = rev.parse().ok()?;
     let version = MappingVersion::One;
-    let after = holdings.standing(id);
-    let page = page.as_bytes();
-    if page.len() > 8_388_608 {
-        return None;
-    }
     let change = if page.len() == 1 {
+        let after = holdings.standing(id);
         holdings.release(id, after, buffer).ok()?
     } else {
         let wanted = Wanted { id, rev, version };
-        holdings.hold(wanted, after, page, buffer).ok()?
+        let page = FetchedPage::Whole(judged(alloc, wanted, page.as_bytes())?);
+        let held = hold(holdings, buffer, wanted, &page);
+        drop(page);
+        held?
     };
     let written = write_change(step, &change, found);
     drop(change);
     written
+}
+
+// The page of these bytes, as it would be fetched.
+fn judged(alloc: Global, wanted: Wanted, page: &[u8]) -> Option<Page>
+    ensures { IfSome result (IsPageOf wanted.version wanted.id wanted.rev) }
+{
+    let mut bytes = Vec::new(alloc);
+    bytes.extend_from_slice(page).ok()?;
+    match judge(alloc, wanted, bytes, None) {
+        Ok(Ok(page)) => Some(page),
+        _ => None,
+    }
+}
+
+// Holds a page, and tells what it changes.
+fn hold(
+    holdings: &mut LeanHoldings,
+    buffer: &mut Unpacker,
+    wanted: Wanted,
+    page: &FetchedPage,
+) -> Option<PartsChange>
+    requires { IsFetched holdings.old.records holdings.old.by_two wanted.version wanted.id wanted.rev page.now }
+{
+    if page.bytes().len() > 8_388_608 {
+        return None;
+    }
+    let after = holdings.standing(wanted.id);
+    holdings.hold(wanted, after, page, buffer).ok()
 }
 
 // Writes what a step changes, behind the step's entity.

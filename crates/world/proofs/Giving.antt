@@ -12,7 +12,7 @@ use Rattle.world.specs.declared.applied.Outcome.TheVariants.{Same, Stored, Dropp
 use Rattle.world.specs.{declared.applied.RoutedPage.RoutedPage, Applying.outcome_after, Applying.outcome_of_reply}
 use Rattle.holders.proofs.Records.{record_here}
 use Rattle.fetched_pages.specs.declared.fetching.FetchedPage.{FetchedPage}
-use Rattle.fetched_pages.specs.declared.fetching.FetchedPage.TheVariants.{Whole, Changed}
+use Rattle.fetched_pages.specs.declared.fetching.FetchedPage.TheVariants.{Whole, Changed, Parted, Differing}
 use Rattle.fetched_pages.specs.{Fetched.AreMeant, Fetched.reply_or_any, Routing.AreRouted}
 
 -- the record of the event's entity after an application
@@ -33,6 +33,8 @@ module _ (known : List Route) (v : MappingVersion) (records : Records) (by_two :
       subst (λ (g : Option ℕ). GivesPage known v e.entity Stored (Some (record { revision = rev; content = page.bytes })) (with_route g page.triples)) (sym routed)
       (record { graph = refl; triples_are = record { meant = meant.set; fit = meant.fit } })
   given_by true d (Some (Ok (Changed page))) meant routed is = absurd (true≢false (sym (ap is_some routed)))
+  given_by true d (Some (Ok (Parted page))) meant routed is = absurd (true≢false (sym (ap is_some routed)))
+  given_by true d (Some (Ok (Differing page))) meant routed is = absurd (true≢false (sym (ap is_some routed)))
   given_by true d (Some (Err cause)) meant routed is = cc
   given_by true d None meant routed is = cc
   given_by false true reply meant routed is = cc

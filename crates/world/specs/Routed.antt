@@ -11,7 +11,7 @@ use Rattle.world.specs.declared.applied.Outcome.TheVariants.{Same, Stored, Dropp
 use Rattle.holdings.specs.Mapped.{AreTriplesOf}
 use Rattle.world.specs.{declared.applied.RemappedStep.RemappedStep, declared.applied.RoutedPage.RoutedPage}
 use Rattle.fetched_pages.specs.declared.fetching.FetchedPage.{FetchedPage}
-use Rattle.fetched_pages.specs.declared.fetching.FetchedPage.TheVariants.{Whole, Changed}
+use Rattle.fetched_pages.specs.declared.fetching.FetchedPage.TheVariants.{Whole, Changed, Parted, Differing}
 use Rattle.fetched_pages.specs.Routing.{route_of_page}
 
 -- the graph that the bytes of a revision of x are routed to by these routes
@@ -26,6 +26,8 @@ with_route graph triples = option_map (λ (g : ℕ). record { graph = g; triples
 abbrev pub routed_page : FetchedPage → Option RoutedPage
 routed_page (Whole page) = with_route page.graph page.triples
 routed_page (Changed page) = None
+routed_page (Parted page) = None
+routed_page (Differing page) = None
 
 -- the same of the page that a reply has
 abbrev pub routed_by : Option (Result FetchedPage Cause) → Option RoutedPage

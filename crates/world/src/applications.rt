@@ -21,6 +21,7 @@ use crate::world::World;
 use entity_model::Event;
 use fetched_pages::{Beside, Reply, Wanted, fetch};
 use graph_routes::Routes;
+use page_packing::Unpacker;
 use rdf_term::OutOfMemory;
 use revisions::Revisions;
 use triple_store::Telling;
@@ -167,12 +168,20 @@ impl World {
             version: self.mapping,
         };
         let known = self.holdings.known_page(event.entity, self.mapping);
+        let mut buffer = Unpacker::new(self.alloc);
+        let parts = self
+            .holdings
+            .parts_beside(event.entity, self.mapping, &mut buffer);
         match fetch(
             self.alloc,
             revisions,
             folder,
             wanted,
-            Beside { routes, known },
+            Beside {
+                routes,
+                known,
+                parts,
+            },
         ) {
             Ok(reply) => Ok(Some(reply)),
             Err(refused) => Err(refused),

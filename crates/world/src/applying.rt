@@ -164,5 +164,13 @@ fn routed(page: FetchedPage) -> Option<RoutedPage>
             drop(page);
             None
         }
+        FetchedPage::Parted(page) => {
+            drop(page);
+            None
+        }
+        FetchedPage::Differing(page) => {
+            drop(page);
+            None
+        }
     }
 }

@@ -9,7 +9,7 @@ ghost use Rattle.entity_model.specs.declared.mapping.MappingVersion.TheVariants.
 ghost use Rattle.entity_state.specs.Standing.{standing_of};
 ghost use Rattle.replay_model.specs.Records.{record_of};
 ghost use Rattle.replay_model.specs.Versions.{all_by, is_holder, meaning_by, with_version};
-ghost use Rattle.fetched_pages.specs.{Compared.HasEntity, Compared.IsKnownPage, Fetched.IsFetched, Fetched.bytes_of, Meaning.meaning};
+ghost use Rattle.fetched_pages.specs.{Fetched.IsFetched, Fetched.bytes_of, Meaning.meaning};
 ghost use Rattle.holders.specs.{Holding.AreHolders, Holding.first_of, Holding.stale_by, Holding.version_in, Roomed.room_with};
 ghost use Rattle.holdings.specs.Mapped.{AreTriplesOf};
 ghost use Rattle.world.specs.{Held.TellsChange, Held.held_in, Held.held_triples, Held.needs_in};
@@ -18,7 +18,7 @@ ghost use Rattle.world.specs.Limit.{HasRoomBy, stored_by, whole};
 use crate::applied::StepChange;
 use entity_model::{EntityId, MappingVersion};
 use entity_state::Standing;
-use fetched_pages::{FetchedPage, KnownPage, Wanted};
+use fetched_pages::{FetchedPage, Wanted};
 use holdings::{Holdings, RemappedPage};
 use lean_holdings::LeanHoldings;
 use page_packing::Unpacker;
@@ -128,17 +128,6 @@ impl WorldHoldings {
         }
     }
 
-    /// The page that an entity holds, where what it means is known of it. It takes no memory.
-    pub fn known_page(&self, id: EntityId, version: MappingVersion) -> Option<KnownPage<'_>>
-        ensures known { IfSome result (IsKnownPage (held_in self.now).records (held_in self.now).by_two version id) }
-        ensures entity { IfSome result (HasEntity id) }
-    {
-        match self {
-            WorldHoldings::All(holdings) => holdings.known_page(id, version),
-            WorldHoldings::Lean(_) => None,
-        }
-    }
-
     /// The revision that an entity of a lean world holds, whose bytes are unpacked into a buffer. After `OutOfMemory`, and where nothing is
     /// held, the buffer may hold any text.
     pub fn read_held(&self, id: EntityId, page: &mut Unpacker) -> Result<Option<u64>, OutOfMemory>
@@ -239,10 +228,7 @@ impl WorldHoldings {
                 }
             }
             WorldHoldings::Lean(lean) => {
-                match lean
-                    .holdings
-                    .hold(wanted, after, page.bytes(), &mut lean.buffer)
-                {
+                match lean.holdings.hold(wanted, after, page, &mut lean.buffer) {
                     Ok(parts) => Ok(StepChange::Parts(parts)),
                     Err(fault) => Err(fault),
                 }

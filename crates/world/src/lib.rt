@@ -12,6 +12,7 @@
 mod applications;
 mod applied;
 mod applying;
+mod beside;
 mod held;
 mod laws;
 mod restoring;

@@ -11,8 +11,8 @@ exchange-exchanged-requires-clause-may_come c = record { fit = c.in-Ok.ensures.f
 
 pub returns-in-Ok-exchanged-clause-exchanged : goal.returns-in-Ok-exchanged-clause-exchanged
 returns-in-Ok-exchanged-clause-exchanged c = record {
-  done = whole_swapped c.args.setting.telling c.args.store.now c.exchange-exchanged.new.self c.args.old.rising.now c.args.setting.wanted c.args.page.now.bytes c.in-Ok.mapped.triples c.in-Ok.mapped.counts c.in-Ok-exchanged.done c.with_counts.result
-      (record { set = rw c.as_slice.ensures at c.in-Ok.ensures.meant; listed = rw c.as_slice.ensures at c.in-Ok.ensures.listed })
+  done = whole_swapped c.args.setting.telling c.args.store.now c.exchange-exchanged.new.self c.args.old.rising.now c.args.setting.wanted c.args.page.now c.in-Ok.mapped.triples c.in-Ok.mapped.counts c.in-Ok-exchanged.done c.with_counts.result
+      (record { set = c.in-Ok.ensures.meant; listed = c.in-Ok.ensures.listed })
       (whole c.args.store.now c.args.old.rising.now c.in-Ok.mapped.triples c.requires.sound c.requires.stored c.args.setting.telling c.exchange-exchanged.new.self c.in-Ok-exchanged.done c.in-Ok-exchanged.ensures.exchanged.done)
       c.with_counts.ensures;
   err = tt;
@@ -25,8 +25,8 @@ returns-in-Err-exchanged-clause-exchanged c = record {
   err = c.in-Err-exchanged.ensures.exchanged.err;
   full = λ e.
       let same : c.in-Err-exchanged.fault ≡ Full = cc in
-      subst (λ n. limit_of c.args.store.now < n) (whole_room c.args.setting.telling c.args.store.now c.exchange-exchanged.new.self c.args.old.rising.now c.args.setting.wanted c.args.page.now.bytes c.in-Ok.mapped.triples c.in-Ok.mapped.counts
-      (record { set = rw c.as_slice.ensures at c.in-Ok.ensures.meant; listed = rw c.as_slice.ensures at c.in-Ok.ensures.listed }))
+      subst (λ n. limit_of c.args.store.now < n) (whole_room c.args.setting.telling c.args.store.now c.exchange-exchanged.new.self c.args.old.rising.now c.args.setting.wanted c.args.page.now c.in-Ok.mapped.triples c.in-Ok.mapped.counts
+      (record { set = c.in-Ok.ensures.meant; listed = c.in-Ok.ensures.listed }))
       (whole_full c.args.store.now c.args.old.rising.now c.in-Ok.mapped.triples c.requires.sound c.requires.stored (c.in-Err-exchanged.ensures.exchanged.full (ap (λ fault. Err fault) same)));
 }
 

@@ -9,9 +9,9 @@ use Rattle.lean_holdings.proofs.parts.no_parts.Goals as goal
 
 pub returns : goal.returns
 returns c counted m = record {
-  own = ap (λ (p : PartsState). sorted triple_cmp p.own) c.new.ensures;
-  stored = ap (λ (p : PartsState). sorted triple_cmp p.shared) c.new.ensures;
-  fit = subst (λ (p : PartsState). AllByRecursion HasFitAndShortTerms p.shared) (sym c.new.ensures) tt;
-  rising = subst (IsRising entity_cmp) (sym c.new-2.ensures.items) tt;
-  names = λ y. ap (has entity_cmp y) c.new-2.ensures.items;
+  own = ap (λ (p : PartsState). sorted triple_cmp p.own) c.none.ensures.parts;
+  stored = ap (λ (p : PartsState). sorted triple_cmp p.shared) c.none.ensures.parts;
+  fit = subst (λ (p : PartsState). AllByRecursion HasFitAndShortTerms p.shared) (sym c.none.ensures.parts) tt;
+  rising = subst (IsRising entity_cmp) (sym c.none.ensures.names) tt;
+  names = λ y. ap (has entity_cmp y) c.none.ensures.names;
 }

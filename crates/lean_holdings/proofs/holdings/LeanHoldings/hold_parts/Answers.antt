@@ -10,19 +10,19 @@ use Rattle.slot_keys.proofs.Lists.{or_left}
 use Rattle.fetched_pages.specs.Meaning.{meaning}
 use Rattle.holders.specs.Roomed.{room_with}
 use Rattle.lean_holdings.specs.{Changing.needs, Holding.counted_by, InStep.LeanState}
-use Rattle.lean_holdings.proofs.{CountedOut.among_with, Needing.put_needs, Needing.ready_needs, Results.either_way, Results.on_err, Strange.not_itself}
+use Rattle.lean_holdings.proofs.{Apart.sorted_again, CountedOut.among_with, Needing.put_needs, Needing.ready_needs, Results.either_way, Results.on_err, Strange.not_itself}
 use Rattle.lean_holdings.proofs.holdings.LeanHoldings.hold_parts.Goals.{After-drop}
 use Rattle.lean_holdings.proofs.holdings.LeanHoldings.hold_parts.Goals as goal
 
-pub put_page-held-requires-clause-come : goal.put_page-held-requires-clause-come
-put_page-held-requires-clause-come c =
-    c.requires.come (counted_by c.make_ready.new.self.names)
-    (c.in-Ok.ensures.counted c.args.wanted.id ∙ ap (λ ids. has entity_cmp c.args.wanted.id ids || has entity_cmp c.args.wanted.id (counted_by c.args.self.now.names)) c.as_slice.ensures.value
-    ∙ ap (λ b. b || has entity_cmp c.args.wanted.id (counted_by c.args.self.now.names))
-    ((c.requires.come (counted_by c.args.self.now.names) refl).names c.args.wanted.id ∙ not_itself c.args.wanted.id (meaning c.args.wanted.version c.args.wanted.id c.args.wanted.rev c.args.page.now)))
-
-pub put_page-held-requires-clause-known : goal.put_page-held-requires-clause-known
-put_page-held-requires-clause-known c y there = c.in-Ok.ensures.counted y ∙ or_left (has entity_cmp y c.as_slice.result.now) _ (ap (has entity_cmp y) c.as_slice.ensures.value ∙ there)
+pub put_page-held-requires-clause-coming : goal.put_page-held-requires-clause-coming
+put_page-held-requires-clause-coming c = (
+  c.in-Ok.ensures.gone,
+  c.requires.come (counted_by c.make_ready.new.self.names)
+      (c.in-Ok.ensures.counted c.args.wanted.id ∙ ap (λ ids. has entity_cmp c.args.wanted.id ids || has entity_cmp c.args.wanted.id (counted_by c.args.self.now.names)) c.as_slice.ensures.value
+      ∙ ap (λ b. b || has entity_cmp c.args.wanted.id (counted_by c.args.self.now.names))
+      ((c.requires.come (counted_by c.args.self.now.names) refl).names c.args.wanted.id ∙ not_itself c.args.wanted.id (meaning c.args.wanted.version c.args.wanted.id c.args.wanted.rev c.args.page.now))),
+  λ y there. c.in-Ok.ensures.counted y ∙ or_left (has entity_cmp y c.as_slice.result.now) _ (ap (has entity_cmp y) c.as_slice.ensures.value ∙ there),
+)
 
 pub returns-in-Ok-clause-records : goal.returns-in-Ok-clause-records
 returns-in-Ok-clause-records c = rw c.count_out_rest.ensures.records (rw c.make_ready.ensures.records at c.put_page-held.ensures.records)
@@ -50,14 +50,15 @@ counted : (c : After-drop) (y : EntityId) → has entity_cmp y (counted_by c.mak
 counted c y = c.in-Ok.ensures.counted y ∙ ap (λ ids. has entity_cmp y ids || has entity_cmp y (counted_by c.args.self.now.names)) c.as_slice.ensures.value
 
 -- the room that is needed once all are counted
-room : (c : After-drop) → room_with (stored_of (counted_by c.make_ready.new.self.names) (meaning_by meaning c.make_ready.new.self.by_two)) c.make_ready.new.self.records c.args.come.now.parts.shared
+room : (c : After-drop) → room_with (stored_of (counted_by c.make_ready.new.self.names) (meaning_by meaning c.make_ready.new.self.by_two)) c.make_ready.new.self.records
+    (stored_of (counted_by c.make_ready.new.self.names) (meaning c.args.wanted.version) c.args.wanted.id c.args.wanted.rev c.args.page.now)
     ≡ needs c.args.self.now c.args.wanted.version c.args.wanted.id (Some (record { revision = c.args.wanted.rev; content = c.args.page.now }))
 room c =
     let names_are = (c.requires.come (counted_by c.args.self.now.names) refl).names in
     put_needs c.args.self.now c.args.wanted.version c.args.wanted.id (Some (record { revision = c.args.wanted.rev; content = c.args.page.now })) c.args.come.now.names.items
-    names_are c.make_ready.new.self c.args.come.now.parts.shared c.make_ready.ensures.records c.make_ready.ensures.by_two (counted c)
-    (c.requires.come (counted_by c.make_ready.new.self.names)
-    (counted c c.args.wanted.id ∙ ap (λ b. b || has entity_cmp c.args.wanted.id (counted_by c.args.self.now.names)) (names_are c.args.wanted.id ∙ not_itself c.args.wanted.id _))).stored
+    names_are c.make_ready.new.self _ c.make_ready.ensures.records c.make_ready.ensures.by_two (counted c)
+    (sorted_again c.args.come.now.parts.shared _ (c.requires.come (counted_by c.make_ready.new.self.names)
+    (counted c c.args.wanted.id ∙ ap (λ b. b || has entity_cmp c.args.wanted.id (counted_by c.args.self.now.names)) (names_are c.args.wanted.id ∙ not_itself c.args.wanted.id _))).stored)
 
 pub returns-in-Ok-clause-full : goal.returns-in-Ok-clause-full
 returns-in-Ok-clause-full c = rw (room c, c.make_ready.ensures.limit) at c.put_page-held.ensures.full

@@ -9,6 +9,7 @@ use Rattle.fetched_pages.specs.Meaning.{meaning}
 use Rattle.holders.specs.Holders.{ByVersion}
 use Rattle.lean_holdings.specs.{Holding.counted_by, InStep.AreInStep, Kept.holds_in, Kept.kept_of, Kept.seen}
 use Rattle.holders.proofs.ByVersion.{moved_by_two, moved_to, moves, undone}
+use Rattle.lean_holdings.specs.Moving.{lists_of}
 use Rattle.lean_holdings.proofs.{CountedIn.are_stored, CountedIn.countable, InStep.links, Rooming.room_more, Staying.keys_unseen, Staying.put_same}
 use Rattle.lean_holdings.proofs.Stepping.{again_step, may_move, tells_step, undone_step}
 use Rattle.lean_holdings.proofs.holdings.LeanHoldings.put_again.Goals.{After-remove, After-take_back}
@@ -26,7 +27,7 @@ there c = sym (links c.self.inside.pages c.self.inside.table.records c.args.id) 
 after : (c : After-remove) → AreInStep c.move_parts.new.store c.self.inside.pages c.move_parts.new.names c.remove.new.self c.set_keys.new.table.records
 after c = rw c.set_keys.ensures
     (again_step c.self.inside.store c.self.inside.pages c.self.inside.names c.self.inside.holders c.self.inside.table.records c.args.id c.self.invariant
-    c.args.version c.remove.new.self (by2 c) c.move_parts.new.store c.move_parts.new.names c.keys_of-keys.result.rising.now c.args.gone.now c.args.come.now c.in-Ok-move_parts.field-0
+    c.args.version c.remove.new.self (by2 c) c.move_parts.new.store c.move_parts.new.names c.keys_of-keys.result.rising.now (lists_of c.args.gone.now) (lists_of c.args.come.now) c.in-Ok-move_parts.field-0
     (rw (← c.self.view_is) at c.requires.gone) c.keys_of-keys.ensures c.in-Ok-move_parts.ensures.moved
     (there c) (rw (← c.self.view_is) at c.requires.come) (rw (← c.self.view_is) at c.requires.known) (is_moved c))
 
@@ -59,7 +60,7 @@ pub move_parts-requires-clause-may_move : goal.move_parts-requires-clause-may_mo
 move_parts-requires-clause-may_move c =
     let few : map.len c.self.inside.table.records < 18446744073709551615 = omega arith in
     may_move c.self.inside.store c.self.inside.pages c.self.inside.names c.self.inside.holders c.self.inside.table.records c.args.id c.self.invariant
-    (meaning c.args.version) _ c.args.gone.now c.args.come.now few
+    (meaning c.args.version) _ (lists_of c.args.gone.now) (lists_of c.args.come.now) few
     (rw (← c.self.view_is) at c.requires.gone) (rw (← c.self.view_is) at c.requires.come) (rw (← c.self.view_is) at c.requires.known)
 
 pub set_keys-requires : goal.set_keys-requires
@@ -88,7 +89,7 @@ returns-in-Ok-move_parts-clause-change c =
     let records = seen c.self.inside.pages c.self.inside.table.records in
     rw (← c.self.view_is)
     (tells_step c.self.inside.store c.self.inside.pages c.self.inside.names c.self.inside.holders c.self.inside.table.records c.args.id c.self.invariant
-    c.args.version c.remove.new.self (by2 c) c.move_parts.new.store c.move_parts.new.names c.keys_of-keys.result.rising.now c.args.gone.now c.args.come.now c.in-Ok-move_parts.field-0
+    c.args.version c.remove.new.self (by2 c) c.move_parts.new.store c.move_parts.new.names c.keys_of-keys.result.rising.now (lists_of c.args.gone.now) (lists_of c.args.come.now) c.in-Ok-move_parts.field-0
     (rw (← c.self.view_is) at c.requires.gone) c.keys_of-keys.ensures c.in-Ok-move_parts.ensures.moved
     c.self.inside.pages c.set_keys.new.table.records (record_of records c.args.id) (after c)
     (was_seen c ∙ sym (put_same records c.args.id (rw (← c.self.view_is) at c.requires.holds))) (rw (← c.self.view_is) at c.requires.come))

@@ -7,6 +7,7 @@ use Rattle.fetched_pages.specs.Meaning.{meaning}
 use Rattle.holders.specs.Holders.{ByVersion, without_holder}
 use Rattle.lean_holdings.specs.{InStep.AreInStep, Kept.seen}
 use Rattle.holders.proofs.ByVersion.{moved_out}
+use Rattle.lean_holdings.specs.Moving.{lists_of}
 use Rattle.lean_holdings.proofs.{CountedIn.are_stored, CountedIn.countable}
 use Rattle.lean_holdings.proofs.Stepping.{gone_step, gone_step_seen, gone_tells, may_move, undone_step}
 use Rattle.lean_holdings.proofs.holdings.LeanHoldings.put_nothing.Goals.{After-remove-in-Ok-move_parts}
@@ -18,7 +19,7 @@ is_out c = c.remove-in-Ok-move_parts.ensures ∙ ap (λ (i : ByVersion). without
 after : (c : After-remove-in-Ok-move_parts) → AreInStep c.move_parts.new.store c.replace.new.pages c.move_parts.new.names c.remove-in-Ok-move_parts.new.self c.replace.new.table.records
 after c = rw (c.replace.ensures.records, c.make_room.ensures.records)
     (gone_step c.self.inside.store c.self.inside.pages c.self.inside.names c.self.inside.holders c.self.inside.table.records c.args.id c.self.invariant
-    c.remove-in-Ok-move_parts.new.self (is_out c) c.move_parts.new.store c.move_parts.new.names c.keys_of-keys.result.rising.now c.args.gone.now c.args.come.now c.in-Ok-move_parts.field-0
+    c.remove-in-Ok-move_parts.new.self (is_out c) c.move_parts.new.store c.move_parts.new.names c.keys_of-keys.result.rising.now (lists_of c.args.gone.now) (lists_of c.args.come.now) c.in-Ok-move_parts.field-0
     (rw (← c.self.view_is) at c.requires.gone) (c.requires.come _) (rw c.make_room.ensures.records at c.keys_of-keys.ensures) c.in-Ok-move_parts.ensures.moved
     c.replace.new.pages c.args.after.state c.args.after.reconciled (rw c.make_room.ensures.records at c.replace.ensures.freed))
 
@@ -38,7 +39,7 @@ pub move_parts-requires-clause-may_move : goal.move_parts-requires-clause-may_mo
 move_parts-requires-clause-may_move c =
     let few : map.len c.self.inside.table.records < 18446744073709551615 = omega (arith, ap map.len c.make_room.ensures.records) in
     may_move c.self.inside.store c.self.inside.pages c.self.inside.names c.self.inside.holders c.self.inside.table.records c.args.id c.self.invariant
-    (meaning_by meaning c.self.inside.holders.by_two) None c.args.gone.now c.args.come.now few
+    (meaning_by meaning c.self.inside.holders.by_two) None (lists_of c.args.gone.now) (lists_of c.args.come.now) few
     (rw (← c.self.view_is) at c.requires.gone) (c.requires.come _ _) (λ y there. absurd (true≢false (sym there ∙ (c.requires.come [] (meaning_by meaning c.self.inside.holders.by_two)).names y)))
 
 pub invariant_of-self : goal.invariant_of-self
@@ -55,7 +56,7 @@ invariant_of-self-in-Err c = rw (c.make_room.ensures.records, c.in-Err.ensures.e
 pub returns-in-Ok-move_parts-clause-records : goal.returns-in-Ok-move_parts-clause-records
 returns-in-Ok-move_parts-clause-records c = rw (← c.self.view_is, c.replace.ensures.records, c.make_room.ensures.records)
     (gone_step_seen c.self.inside.store c.self.inside.pages c.self.inside.names c.self.inside.holders c.self.inside.table.records c.args.id c.self.invariant
-    c.remove-in-Ok-move_parts.new.self (is_out c) c.move_parts.new.store c.move_parts.new.names c.keys_of-keys.result.rising.now c.args.gone.now c.args.come.now c.in-Ok-move_parts.field-0
+    c.remove-in-Ok-move_parts.new.self (is_out c) c.move_parts.new.store c.move_parts.new.names c.keys_of-keys.result.rising.now (lists_of c.args.gone.now) (lists_of c.args.come.now) c.in-Ok-move_parts.field-0
     (rw (← c.self.view_is) at c.requires.gone) (c.requires.come _) (rw c.make_room.ensures.records at c.keys_of-keys.ensures) c.in-Ok-move_parts.ensures.moved
     c.replace.new.pages c.args.after.state c.args.after.reconciled (rw c.make_room.ensures.records at c.replace.ensures.freed))
 
@@ -68,7 +69,7 @@ returns-in-Ok-move_parts-clause-limit c = rw (← c.self.view_is) c.move_parts.e
 pub returns-in-Ok-move_parts-clause-change : goal.returns-in-Ok-move_parts-clause-change
 returns-in-Ok-move_parts-clause-change c = rw (← c.self.view_is, c.replace.ensures.records, c.make_room.ensures.records)
     (gone_tells c.self.inside.store c.self.inside.pages c.self.inside.names c.self.inside.holders c.self.inside.table.records c.args.id c.self.invariant
-    c.remove-in-Ok-move_parts.new.self (is_out c) c.move_parts.new.store c.move_parts.new.names c.keys_of-keys.result.rising.now c.args.gone.now c.args.come.now c.in-Ok-move_parts.field-0
+    c.remove-in-Ok-move_parts.new.self (is_out c) c.move_parts.new.store c.move_parts.new.names c.keys_of-keys.result.rising.now (lists_of c.args.gone.now) (lists_of c.args.come.now) c.in-Ok-move_parts.field-0
     (rw (← c.self.view_is) at c.requires.gone) (c.requires.come _) (rw c.make_room.ensures.records at c.keys_of-keys.ensures) c.in-Ok-move_parts.ensures.moved
     c.replace.new.pages c.args.after.state c.args.after.reconciled (rw c.make_room.ensures.records at c.replace.ensures.freed))
 

@@ -6,7 +6,7 @@ use Rattle.world.proofs.DueEvent.{alike_err}
 use Rattle.world.proofs.held.WorldHoldings.hold.Goals as goal
 
 pub hold-requires-in-Lean : goal.hold-requires-in-Lean
-hold-requires-in-Lean c = record { short = rw c.bytes.ensures (document_short _ _ c.requires.document) }
+hold-requires-in-Lean c = record { fetched = rw c.in-Lean.is at c.requires.fetched; short = document_short _ _ c.requires.document }
 
 pub returns-in-Ok-clause-change : goal.returns-in-Ok-clause-change
 returns-in-Ok-clause-change c = rw c.in-All.is c.in-Ok.ensures.change
@@ -15,7 +15,7 @@ pub returns-in-Ok-clause-within : goal.returns-in-Ok-clause-within
 returns-in-Ok-clause-within c = rw c.in-All.is c.in-Ok.ensures.within
 
 pub returns-in-Ok-hold-clause-within : goal.returns-in-Ok-hold-clause-within
-returns-in-Ok-hold-clause-within c = rw (c.in-Lean.is, ← c.bytes.ensures) c.in-Ok-hold.ensures.within
+returns-in-Ok-hold-clause-within c = rw c.in-Lean.is c.in-Ok-hold.ensures.within
 
 pub returns-in-Err-hold-clause-full : goal.returns-in-Err-hold-clause-full
-returns-in-Err-hold-clause-full c = rw (c.in-Lean.is, ← c.bytes.ensures) (λ is. c.in-Err-hold.ensures.full (alike_err c.in-Err-hold.fault Full _ (Err c.in-Err-hold.fault) refl refl is))
+returns-in-Err-hold-clause-full c = rw c.in-Lean.is (λ is. c.in-Err-hold.ensures.full (alike_err c.in-Err-hold.fault Full _ (Err c.in-Err-hold.fault) refl refl is))
