@@ -18,7 +18,8 @@ use Rattle.following.specs.{Following.Ending as FollowedWell, Following.replica_
 use Rattle.following.proofs.Refusals.{one_list}
 use Rattle.replica.specs.{Laws.IsGreatest, Replica.after}
 use Rattle.replica.proofs.Producers.{one_greatest}
-use Rattle.session.specs.Plans.{IsNotUnderstood, IsRunOf, summary_text}
+use Rattle.run_model.specs.Plans.{IsRunOf}
+use Rattle.session.specs.Plans.{IsNotUnderstood, summary_text}
 use Rattle.session_laws.specs.Reruns.{AreTold, BeginAlike}
 use Rattle.memory_run.specs.{Printed.NamesFewFailures, Runs.IsRun, Runs.Lent, Runs.follow_moment_at}
 use Rattle.memory_run.proofs.Printed.{IsToldRun, begun_at, bytes_in, none_fails, told_run}

@@ -11,7 +11,8 @@ use Rattle.arguments.specs.{Options.FollowChoices, Plan.plan_of, declared.plan.P
 use Rattle.arguments.specs.declared.plan.Plan.TheVariants.{Drill, Follow}
 use Rattle.run_model.specs.{declared.ports.Ports.Ports, declared.status.Status.Status, Moment.Moment, Moment.Run, Moment.moment, Moment.stage, Resuming.RunEnding, Stop.stop_of}
 use Rattle.run_model.specs.declared.status.Status.TheVariants.{BadWords, OutOfMemory}
-use Rattle.session.specs.Plans.{DrillEnding, FollowEnding, IsNotUnderstood, IsRunOf, MaySave}
+use Rattle.run_model.specs.Plans.{IsRunOf}
+use Rattle.session.specs.Plans.{DrillEnding, FollowEnding, IsNotUnderstood, MaySave}
 use Rattle.memory_run.specs.Runs.{HasNoFaults, IsAfter, IsBefore, IsRun, Lent}
 use Rattle.rdf_term.specs.Limits.{default_max_terms}
 use Rattle.world.specs.Limit.{whole}

@@ -15,7 +15,7 @@ use Rattle.run_model.specs.{Course.closing_by, Course.course_ended, Course.cours
 use Rattle.run_model.specs.Moment.{Beginning, IsFirst, Moment, Run, horizon_at, no_numbers, run_of, sections_of, stage_in, start_of, world_at_start}
 use Rattle.run_model.specs.{Reading.AreDeliveries, Taking.judgement}
 use Rattle.run_model.proofs.FromNothing.{ended_first, led_first, said_by_first, steps_end_first, steps_first, stream_first, version_first}
-use Rattle.session.specs.Plans.{IsRunOf}
+use Rattle.run_model.specs.Plans.{IsRunOf}
 use Rattle.session_laws.specs.Reruns.{NoFetchFails, replies_at, reported}
 use Rattle.memory_run.specs.{Printed.IsPrinted, Printed.reported_from_nothing}
 use Rattle.memory_run.specs.Runs.{HasNoFaults, IsAfter, IsBefore, Lent}

@@ -9,7 +9,8 @@ use Rattle.arguments.specs.{Options.FollowChoices, Plan.plan_of, declared.plan.P
 use Rattle.arguments.specs.declared.plan.Plan.TheVariants.{Drill, Follow}
 use Rattle.run_model.specs.{Moment.Moment, Moment.Run, Resuming.RunEnding, Stop.stop_of, declared.status.Status.Status}
 use Rattle.run_model.specs.declared.status.Status.TheVariants.{BadWords, OutOfMemory}
-use Rattle.session.specs.Plans.{DrillEnding, FollowEnding, IsNotUnderstood, IsRunOf, MaySave}
+use Rattle.run_model.specs.Plans.{IsRunOf}
+use Rattle.session.specs.Plans.{DrillEnding, FollowEnding, IsNotUnderstood, MaySave}
 
 -- the words that these bytes are: a line each, without its line feed
 abbrev pub words_in : List ℕ → List (List ℕ)

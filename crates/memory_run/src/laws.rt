@@ -4,7 +4,7 @@ ghost use Rattle.std.specs.Prelude.{◌≡◌, ℕ, List, None, Some};
 ghost use Rattle.arguments.specs.{Plan.plan_of, declared.plan.Plan.Plan};
 ghost use Rattle.run_model.specs.{Moment.Run, declared.status.Status.Status};
 ghost use Rattle.run_model.specs.declared.status.Status.TheVariants.{Ok as EndedWell, ReadFault, WriteFault};
-ghost use Rattle.session.specs.Plans.{IsRunOf};
+ghost use Rattle.run_model.specs.Plans.{IsRunOf};
 ghost use Rattle.memory_run.specs.{Printed.IsPrinted, Printed.NamesFewFailures, Runs.IsRun, Runs.Lent};
 
 use session_laws::{reruns_are_the_same, runs_without_failures_are_functions};

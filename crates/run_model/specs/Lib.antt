@@ -4,6 +4,7 @@ pub mod Headline
 pub mod Moment
 pub mod Moved
 pub mod OneRun
+pub mod Plans
 pub mod Reading
 pub mod Remapping
 pub mod Report

@@ -11,7 +11,8 @@ use Rattle.arguments.specs.{Options.follow_max_bytes_of, Options.max_bytes_of, d
 use Rattle.run_model.specs.{declared.ports.Ports.Ports, declared.status.Status.TheVariants.OutOfMemory, declared.stop.Stop.Stop, declared.stop.Stop.TheVariants.OutOfMemory as StopOutOfMemory, Headline.ReplayEnding, Resuming.ResumeEnding, Resuming.RunEnding}
 use Rattle.run_model.specs.Moment.{Moment, Run, moment, world_at_start}
 use Rattle.run_model.proofs.{Ongoing.none_gone, Progress.nothing_stands, Progress.starved_at_once, Reading.nothing_taken_of}
-use Rattle.session.specs.Plans.{IsUnbegun, PlanEnding}
+use Rattle.session.specs.Plans.{IsUnbegun, PlanEnding, limit_of_plan}
+use Rattle.session.proofs.Limited.{kept_limit}
 use Rattle.session.proofs.Drills.{not_begun}
 
 module _ {S R K F : Type 0} (events : SourceOf S) (source : RevisionsOf R) (sink : SinkOf K) (file : SnapshotsOf F) (ports : Ports S R K F) (world now : WorldState) where
@@ -49,7 +50,7 @@ module _ {S R K F : Type 0} (events : SourceOf S) (source : RevisionsOf R) (sink
         (not_begun size _ _ now.replay refl (inl (inl (record { before = []; after = drill size; all = refl; is = it.1 }))), it.0, refl);
     follow = λ choices asked.
         (record { outcome = record { why = FollowOutOfMemory; is = refl; stopped = inl (tt, refl) }; taken = nothing_followed (follow_max_bytes_of choices) (events.left ports.events) }, refl, is.follow choices asked);
-    limit = inr (record { terms = is.terms; held = is.held; is = inr refl });
+    limit = inr (kept_limit (limit_of_plan plan) now is.terms is.held is.whole);
     unsaved = inr refl;
     further = none_gone events source sink file ports;
   }

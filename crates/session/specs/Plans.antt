@@ -1,16 +1,15 @@
--- What the arguments ask for: the run of a plan, the most terms that it leaves room for, and whether it may save; and what a drill and a
--- follower leave.
-use Rattle.std.specs.Prelude.{◌≡◌, ◌⊎◌, ℕ, false, List, None, Some, Option, IfSome, IsSome, MatchOption}
+-- What the arguments ask for: the most terms that a plan leaves room for, and whether it may save; and what a drill and a follower leave.
+use Rattle.std.specs.Prelude.{◌≡◌, ◌⊎◌, ℕ, true, false, List, None, Some, Option, IfSome, IsSome, MatchOption}
 use Rattle.revisions.specs.{declared.revisions.Revisions.Ghosts as RevisionsOf, Revisions.Contents}
 use Rattle.graph_routes.specs.{declared.routes.Route.Route, Routes.AreRoutesIn}
 use Rattle.arguments.specs.Options.{SplitChoices, FollowChoices, follow_max_bytes_of}
 use Rattle.arguments.specs.{Plan.plan_of, declared.plan.Plan.Plan}
 use Rattle.arguments.specs.declared.plan.Plan.TheVariants.{Replay, Drill, Patches, Follow, Split}
-use Rattle.run_model.specs.declared.report.Report.TheVariants.{Answers, Changes}
 use Rattle.run_model.specs.{declared.ports.Ports.Ports, declared.status.Status.Status, Remapping.HoldsWithin, Resuming.RunEnding}
-use Rattle.run_model.specs.Moment.{HaveGoneOn, Run, Stage, limit_of, moment, run_of, stage, world_at_start}
+use Rattle.run_model.specs.Moment.{HaveGoneOn, Run, Stage, limit_of, moment, stage, world_at_start}
 use Rattle.checkpoint.specs.declared.snapshots.Snapshots.{Ghosts as SnapshotsOf}
 use Rattle.world.specs.{Limit.Limit, Limit.whole, WorldState.WorldState}
+use Rattle.run_model.specs.Plans.{IsRunOf}
 use Rattle.run_model.specs.Stop.{MayKeep, stop_of, stop_of_follow}
 use Rattle.run_model.specs.declared.status.Status.TheVariants.{Ok as Ended, BadWords, BadLine, ReadFault, WriteFault, TooLong, StoreFull, OutOfMemory, BadSnapshot}
 use Rattle.run_model.specs.declared.stop.Stop.{Stop}
@@ -41,21 +40,6 @@ pub record HasNoRoutes (words : List (List ℕ)) : Type 0 where
 abbrev pub IsNotUnderstood : List (List ℕ) → Type 0
 IsNotUnderstood words = (plan_of words ≡ None) ⊎ HasNoRoutes words
 
--- a split into the graphs of these routes
-pub record IsSplitRun (choices : SplitChoices) (contents : Option Contents) (run : Run) : Type 0 where
-  pub routes : List Route
-  pub are : AreRoutesIn choices.route routes
-  pub is : run ≡ run_of (Some routes) Answers contents choices.replay
-
--- a plan is this run over a source with these contents: a replay reports answers and a patch stream changes, and a split reports the answers
--- of each graph; a drill and a follower are none
-abbrev pub IsRunOf : Plan → Option Contents → Run → Type 0
-IsRunOf (Replay choices) contents run = run ≡ run_of None Answers contents choices
-IsRunOf (Patches choices) contents run = run ≡ run_of None Changes contents choices
-IsRunOf (Split choices) contents run = IsSplitRun choices contents run
-IsRunOf (Drill size) contents run = ⊥
-IsRunOf (Follow choices) contents run = ⊥
-
 -- the most terms that a plan leaves room for, and of which triples: as its options say, and for a drill and a follower always the same
 abbrev pub limit_of_plan : Plan → Limit
 limit_of_plan (Replay choices) = limit_of choices
@@ -65,11 +49,11 @@ limit_of_plan (Follow choices) = whole default_max_terms
 limit_of_plan (Split choices) = limit_of choices.replay
 
 -- a world that a run with this status left has as many terms as this limit says, and what it holds stays within them; and it is lean as the
--- limit says, unless memory was refused
+-- limit says, unless it was to be lean and memory was refused
 pub record KeepsLimit (status : Status) (limit : Limit) (world : WorldState) : Type 0 where
   pub terms : world.limit.terms ≡ limit.terms
   pub held : HoldsWithin world.limit world
-  pub is : (world.limit ≡ limit) ⊎ (status ≡ OutOfMemory)
+  pub is : (world.limit ≡ limit) ⊎ ((limit.lean ≡ true) × (status ≡ OutOfMemory))
 
 -- a run with this plan and status may have kept or begun a snapshot
 abbrev pub MaySave : Plan → Status → Type 0
@@ -147,8 +131,8 @@ pub record PlanEnding {S R K F : Type 0} (events : SourceOf S) (source : Revisio
   pub unsaved : MaySave plan status ⊎ (new.snapshot ≡ old.snapshot)
   pub further : HaveGoneOn events source sink file old new
 
--- the world of a plan that doesn't begin: that at the start of a first run, or as it was, with as many terms as the plan says; it may not be
--- lean yet
+-- the world of a plan that doesn't begin: that at the start of a first run, or as it was, with as many terms as the plan says; one that is to
+-- be lean may not be lean yet
 pub record IsUnbegun (plan : Plan) (world now : WorldState) : Type 0 where
   pub begun : (contents : Option Contents) (run : Run) → IsRunOf plan contents run → run.choices.resume ≡ None → now ≡ record (world_at_start run.choices) { limit = now.limit }
   pub resumed : (contents : Option Contents) (run : Run) → IsRunOf plan contents run → IsSome run.choices.resume → now ≡ record world { limit = now.limit }
@@ -156,4 +140,5 @@ pub record IsUnbegun (plan : Plan) (world now : WorldState) : Type 0 where
   pub drill : (size : ℕ) → plan ≡ Drill size → IsByFirst now × (now.replay ≡ nothing_delivered)
   pub follow : (choices : FollowChoices) → plan ≡ Follow choices → now ≡ record world { limit = whole default_max_terms }
   pub terms : now.limit.terms ≡ (limit_of_plan plan).terms
+  pub whole : (limit_of_plan plan).lean ≡ false → now.limit ≡ limit_of_plan plan
   pub held : HoldsWithin now.limit now

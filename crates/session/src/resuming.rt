@@ -34,6 +34,7 @@ pub fn prepared(options: &ReplayOptions<'_>, world: World) -> World
     ensures resumed { IsSome options.now.resume → result ≡ record world { limit = result.limit } }
     ensures unplayed { result.replay ≡ nothing_delivered_within result.replay.buffer.horizon }
     ensures terms { result.limit.terms ≡ max_terms_of options.now }
+    ensures whole { options.now.lean ≡ false → result.limit ≡ limit_of options.now }
     ensures held { HoldsWithin result.limit result }
 {
     let mut world = world;
@@ -52,6 +53,7 @@ pub fn prepare(options: &ReplayOptions<'_>, world: &mut World) -> Result<(), Out
     ensures unplayed { world.new.replay ≡ nothing_delivered_within world.new.replay.buffer.horizon }
     ensures limit { OnOk result (world.new.limit ≡ limit_of options.now) }
     ensures terms { world.new.limit.terms ≡ max_terms_of options.now }
+    ensures whole { options.now.lean ≡ false → world.new.limit ≡ limit_of options.now }
     ensures held { HoldsWithin world.new.limit world.new }
 {
     match options.resume() {
@@ -67,6 +69,7 @@ fn begin(options: &ReplayOptions<'_>, world: &mut World) -> Result<(), OutOfMemo
     ensures world { world.new ≡ record (world_at_start options.now) { limit = world.new.limit } }
     ensures limit { OnOk result (world.new.limit ≡ limit_of options.now) }
     ensures terms { world.new.limit.terms ≡ max_terms_of options.now }
+    ensures whole { options.now.lean ≡ false → world.new.limit ≡ limit_of options.now }
 {
     begin_by_first(world);
     set_horizon(options, world);
@@ -80,6 +83,7 @@ fn set_limit(options: &ReplayOptions<'_>, world: &mut World) -> Result<(), OutOf
     ensures rest { world.new ≡ record world.old { limit = world.new.limit } }
     ensures limit { OnOk result (world.new.limit ≡ limit_of options.now) }
     ensures terms { world.new.limit.terms ≡ max_terms_of options.now }
+    ensures whole { options.now.lean ≡ false → world.new.limit ≡ limit_of options.now }
 {
     let terms = options.max_terms();
     world.set_limit(terms);

@@ -5,7 +5,8 @@ ghost use Rattle.replay_model.specs.ReplayState.{nothing_delivered, nothing_deli
 ghost use Rattle.drill_replay.specs.Playing.{IsByFirst};
 ghost use Rattle.run_model.specs.{Moment.HaveGoneOn, Resuming.RunEnding, Moment.Run, Moment.moment, Moment.stage};
 ghost use Rattle.run_model.specs.Stop.{stop_of};
-ghost use Rattle.session.specs.Plans.{DrillEnding, FollowEnding, IsNotUnderstood, IsRunOf, KeepsLimit, MaySave, PlanEnding, limit_of_plan};
+ghost use Rattle.run_model.specs.Plans.{IsRunOf};
+ghost use Rattle.session.specs.Plans.{DrillEnding, FollowEnding, IsNotUnderstood, KeepsLimit, MaySave, PlanEnding, limit_of_plan};
 ghost use Rattle.following.specs.Following.{follow_moment};
 ghost use Rattle.arguments.specs.{Options.FollowChoices, Plan.plan_of, declared.plan.Plan.Plan as ThePlan};
 ghost use Rattle.arguments.specs.declared.plan.Plan.TheVariants.{Drill, Follow};

@@ -3,7 +3,7 @@ use Rattle.std.specs.Prelude.{◌≡◌, ℕ, List, Option, Some}
 use Rattle.revisions.specs.Revisions.{Contents}
 use Rattle.arguments.specs.{Options.Choices, Plan.plan_of, declared.plan.Plan.Plan}
 use Rattle.run_model.specs.{declared.stop.Stop.Stop, Moment.Moment, Moment.Run, Moment.stage_in, Moment.world_at_start, Resuming.RunEnding}
-use Rattle.session.specs.Plans.{IsRunOf}
+use Rattle.run_model.specs.Plans.{IsRunOf}
 
 -- what that clause says: the plan of the arguments ends as the run does that it is
 abbrev pub EndsAsItsRun : List (List ℕ) → Option Contents → Option Stop → Moment → Moment → Type 0

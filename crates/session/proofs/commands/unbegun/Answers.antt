@@ -26,6 +26,7 @@ returns-in-Some-Drill c = λ plan is.
       drill = λ size asked. (c.begin_by_first.ensures.first, c.begin_by_first.ensures.replay);
       follow = λ choices never. cc;
       terms = refl;
+      whole = λ _. refl;
       held = rw c.begin_by_first.ensures.replay (nothing_held _ nothing_played.records _ (len-empty _ _));
     }))
 
@@ -39,5 +40,6 @@ returns-in-Some-Follow c = λ plan is.
       drill = λ size never. cc;
       follow = λ choices asked. refl;
       terms = refl;
+      whole = λ _. refl;
       held = rw c.requires.world (nothing_held _ nothing_played.records _ (len-empty _ _));
     }))

@@ -1,8 +1,9 @@
 -- A replay of a world that was prepared, or none, since memory was refused.
 use Rattle.std.proofs.Common.{ap, inl, inr, refl}
 use Rattle.world.specs.Limit.{Limit}
-use Rattle.run_model.specs.Moment.{run_of}
+use Rattle.run_model.specs.Moment.{limit_of, run_of}
 use Rattle.run_model.proofs.Ongoing.{none_gone}
+use Rattle.session.proofs.Limited.{kept_limit}
 use Rattle.session.proofs.Starved.{limit_apart, starved_run}
 use Rattle.session.proofs.replaying.run_replay.Goals as goal
 
@@ -21,7 +22,7 @@ returns-in-Err-clause-ending g c =
     c.prepare.ensures.begun c.prepare.ensures.resumed
 
 pub returns-in-Err-clause-limit : goal.returns-in-Err-clause-limit
-returns-in-Err-clause-limit g c = record { terms = c.prepare.ensures.terms; held = c.prepare.ensures.held; is = inr refl }
+returns-in-Err-clause-limit g c = kept_limit (limit_of c.args.task.now.options.now) _ c.prepare.ensures.terms c.prepare.ensures.held c.prepare.ensures.whole
 
 pub returns-in-Err-clause-unsaved : goal.returns-in-Err-clause-unsaved
 returns-in-Err-clause-unsaved g c = inr refl

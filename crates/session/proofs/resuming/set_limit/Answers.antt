@@ -24,6 +24,10 @@ pub returns-then-lean-clause-terms : goal.returns-then-lean-clause-terms
 returns-then-lean-clause-terms c =
     (made_lean c.args.options.now _ c.args.world.now c.set_limit.new.self c.make_lean.new.world c.make_lean.result c.set_limit.ensures c.max_terms-terms.ensures (sym c.if-lean.true ∙ c.lean.ensures) c.make_lean.ensures.ok c.make_lean.ensures.err).terms
 
+pub returns-then-lean-clause-whole : goal.returns-then-lean-clause-whole
+returns-then-lean-clause-whole c =
+    (made_lean c.args.options.now _ c.args.world.now c.set_limit.new.self c.make_lean.new.world c.make_lean.result c.set_limit.ensures c.max_terms-terms.ensures (sym c.if-lean.true ∙ c.lean.ensures) c.make_lean.ensures.ok c.make_lean.ensures.err).whole
+
 pub returns-clause-rest : goal.returns-clause-rest
 returns-clause-rest c = (left_whole c.args.options.now _ c.args.world.now c.set_limit.new.self c.set_limit.ensures c.max_terms-terms.ensures (sym c.if-lean.false ∙ c.lean.ensures)).rest
 
@@ -32,3 +36,6 @@ returns-clause-limit c = (left_whole c.args.options.now _ c.args.world.now c.set
 
 pub returns-clause-terms : goal.returns-clause-terms
 returns-clause-terms c = (left_whole c.args.options.now _ c.args.world.now c.set_limit.new.self c.set_limit.ensures c.max_terms-terms.ensures (sym c.if-lean.false ∙ c.lean.ensures)).terms
+
+pub returns-clause-whole : goal.returns-clause-whole
+returns-clause-whole c = (left_whole c.args.options.now _ c.args.world.now c.set_limit.new.self c.set_limit.ensures c.max_terms-terms.ensures (sym c.if-lean.false ∙ c.lean.ensures)).whole

@@ -1,6 +1,7 @@
 -- Where memory is refused before the first line, the world is that at the start, or as it was.
-use Rattle.std.proofs.Common.{Some, inr, refl}
-use Rattle.run_model.specs.{declared.report.Report.TheVariants.Answers, Moment.run_of}
+use Rattle.std.proofs.Common.{Some, inr}
+use Rattle.run_model.specs.{declared.report.Report.TheVariants.Answers, Moment.limit_of, Moment.run_of}
+use Rattle.session.proofs.Limited.{kept_limit}
 use Rattle.session.proofs.Starved.{starved_run}
 use Rattle.session.proofs.split.split.Goals as goal
 
@@ -10,4 +11,4 @@ returns-in-Err-clause-ending g c = λ routes are.
     (rw c.replay-asked.ensures at c.prepared.ensures.begun) (rw c.replay-asked.ensures at c.prepared.ensures.resumed)
 
 pub returns-in-Err-clause-limit : goal.returns-in-Err-clause-limit
-returns-in-Err-clause-limit g c = inr (record { terms = rw c.replay-asked.ensures at c.prepared.ensures.terms; held = c.prepared.ensures.held; is = inr refl })
+returns-in-Err-clause-limit g c = inr (kept_limit (limit_of c.args.options.now.replay) _ (rw c.replay-asked.ensures at c.prepared.ensures.terms) c.prepared.ensures.held (rw c.replay-asked.ensures at c.prepared.ensures.whole))
