@@ -125,6 +125,8 @@ run_checks() {
     check_program "${run%/run.sh}" 480 '' "$run"
   done
   check_program lean 240 python3 scripts/lean_streams.py "$WDQ"
+  check_program refused 400 'python3 cc' scripts/refuse_memory.py --lean "$WDQ"
+  check demonstration 60 python3 scripts/lean_demonstration.py --help
   check_program saves 300 '' scripts/kill_save.sh 20
   check_program pages 400 python3 scripts/slow_pages.py --once --most 20 "$WDQ"
   check_program commands 240 python3 python3 scripts/check_commands.py

@@ -42,7 +42,7 @@ PASSED_OVER = (
     (r"(useradd|sudo|cp /opt/wdq/mirror/systemd/\S+) .*", "needs root"),
     (r"systemctl .*", "needs systemd"),
     (r"isql-vt .*", "needs Virtuoso"),
-    (r"scripts/package\.sh.*|scripts/(try_packing|lean_streams|memory)\.py.*|mirror/tests/latency\.py .*", "takes minutes"),
+    (r"scripts/package\.sh.*|scripts/(try_packing|lean_streams|lean_demonstration|refuse_memory|memory)\.py.*|mirror/tests/latency\.py .*", "takes minutes"),
     (r"scripts/(library|page)\.sh.*", "builds for minutes; scripts/check.sh tries what they build"),
 )
 # What a command has that isn't here, and what is tried in its place.

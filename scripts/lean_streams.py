@@ -4,7 +4,8 @@
     lean_streams.py [--runs N] [--events N] [--seed N] PROGRAM
 
 The pages are strange: statement ids name other entities, also in small letters or with a dash in place of the dollar sign, two ids become
-one node, two items have one article, and pages share values and references. The events edit, delete, undelete and reconcile, come in any
+one node, two items have one article, and pages share values and references. In every second file most pages are long ones that differ in a
+few parts from the page before of their entity, so that wdq compares the two. The events edit, delete, undelete and reconcile, come in any
 order and repeatedly, and change the version of the mapping. Each file is also cut in two: either kind of run saves behind the first part,
 and either goes on from the other's snapshot, which has to be the same file. With a small limit on terms, the lean run goes on where the
 other stops. Ends with 1 at the first difference, whose files it keeps and names.
@@ -20,6 +21,7 @@ import tempfile
 
 ITEMS = ['Q1', 'Q2', 'Q3', 'Q12', 'Q20']
 ENTITIES = ITEMS + ['P5', 'L1', 'L2']
+CODES = 'ar bg bn ca cs da de el en es et fa fi fr he hi hr hu id it ja ko lt lv nl pl pt ro ru sv'.split()
 
 
 def snak(rng, prop):
@@ -76,23 +78,66 @@ def page(rng, entity):
             'forms': forms, 'senses': [], 'claims': claims(rng, entity)}
 
 
+def with_descriptions(rng, made):
+    """the page of an item or a property, made longer than 1 kB"""
+    made['descriptions'] = {code: {'language': code, 'value': f'{rng.choice(["one", "two"])} of the things in {code}'} for code in CODES}
+    return made
+
+
+def change_part(rng, entity, made):
+    """changes one part of a page"""
+    kind = rng.choice(['labels', 'descriptions', 'claims', 'claims', 'claims', 'less', 'sitelinks'])
+    if kind in ('labels', 'descriptions'):
+        code = rng.choice(CODES)
+        made[kind][code] = {'language': code, 'value': rng.choice(['three', 'four'])}
+    elif kind == 'claims':
+        prop, new = statement(rng, entity)
+        found = made['claims'].setdefault(prop, [])
+        found[rng.randrange(len(found) + 1):] = [new]
+    elif kind == 'less' and made['claims']:
+        del made['claims'][rng.choice(list(made['claims']))]
+    elif kind == 'sitelinks' and 'sitelinks' in made:
+        made['sitelinks'] = {'enwiki': {'site': 'enwiki', 'title': rng.choice(['A', 'B c']), 'badges': []}}
+
+
+class Edited:
+    """Long pages, most of which differ in a few parts from the one before of their entity."""
+
+    def __init__(self):
+        self.last = {}
+
+    def page(self, rng, entity):
+        before = self.last.get(entity)
+        if before is None or rng.random() < 0.1:
+            made = page(rng, entity)
+            if 'claims' not in made or made.get('type') == 'lexeme':
+                return made
+            made = with_descriptions(rng, made)
+        else:
+            made = json.loads(json.dumps(before))
+            for _ in range(rng.randrange(1, 4)):
+                change_part(rng, entity, made)
+        self.last[entity] = made
+        return made
+
+
 def stamp(second):
     return f'2024-05-01T{second // 3600:02}:{second // 60 % 60:02}:{second % 60:02}Z'
 
 
-def lines(rng, events, pages):
+def lines(rng, events, pages, page_of=page, entities=ENTITIES):
     """the lines of an event file; pages go to the folder"""
     rev, second, waiting, made = 100, 0, [], []
     for _ in range(events):
         second += rng.randrange(3)
-        entity, kind = rng.choice(ENTITIES), rng.choices(['edit', 'delete', 'undelete', 'reconcile'], [12, 2, 1, 1])[0]
+        entity, kind = rng.choice(entities), rng.choices(['edit', 'delete', 'undelete', 'reconcile'], [12, 2, 1, 1])[0]
         rev += 1
         event = {'kind': kind, 'entity': entity, 'rev': rev, 'time': stamp(second)}
         if kind == 'reconcile':
             event['mode'] = rng.choice(['kept', 'deleted'])
         if rng.random() < 0.95:
             with open(os.path.join(pages, f'{rev}.json'), 'w', encoding='utf-8') as file:
-                json.dump(page(rng, entity), file, ensure_ascii=False)
+                json.dump(page_of(rng, entity), file, ensure_ascii=False)
         waiting.append(event)
         if rng.random() < 0.2:
             waiting.append(event)
@@ -122,7 +167,7 @@ def content(path):
 
 def try_one(program, seed, events, room):
     rng = random.Random(seed)
-    text = lines(rng, events, room)
+    text = lines(rng, events, room, page if seed % 2 else Edited().page)
     with open(os.path.join(room, 'events.jsonl'), 'w', encoding='utf-8') as file:
         file.writelines(text)
     pages = ['--from', room]

@@ -87,7 +87,7 @@ def main():
     with tempfile.TemporaryDirectory(prefix="wdq-memory") as room:
         folder = pathlib.Path(room) / "workload"
         # in a process of its own, since a child's peak begins with its parent's
-        maker = multiprocessing.Process(target=item_workload.make, args=(folder, given.items, given.bytes, 0, 1, "1"))
+        maker = multiprocessing.Process(target=item_workload.make, args=(folder, given.items, given.bytes, 0, 1, "1", os.cpu_count()))
         maker.start()
         maker.join()
         lines = (folder / "input").read_text().splitlines(keepends=True)
