@@ -1,3 +1,3 @@
 """wdq-mirror: keeps a store of Wikidata's triples in step with Wikidata's edits, by the program wdq."""
 
-__version__ = "0.30.0"
+__version__ = "0.31.0"
