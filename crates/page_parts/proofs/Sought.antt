@@ -1,5 +1,5 @@
 -- Rows and subjects that are looked for.
-use Rattle.std.proofs.Common.{◌≡◌, ℕ, ◌+◌, ◌<◌, ◌≤◌, Bool, true, false, ◌||◌, List, take, [], ◌∷◌, length, get_or, Some, None, Ordering, Less, Greater, is_eq, is_lt, is_some, is_ok, Ok, Err, Result, refl, sym, ◌∙◌, ap, arith, ⊎_elim, true≢false}
+use Rattle.std.proofs.Common.{◌≡◌, ℕ, ◌+◌, ◌<◌, ◌≤◌, Bool, true, false, ◌||◌, List, take, [], ◌∷◌, length, get_or, Some, None, Ordering, Less, Equal, Greater, is_eq, is_lt, is_some, is_ok, Ok, Err, Result, refl, sym, ◌∙◌, ap, arith, ⊎_elim, true≢false}
 use Rattle.std.specs.Prelude.{option_map, slice_get}
 use Rattle.std.specs.Cmp.{IsTotalOrder}
 use Rattle.std.specs.Cmp.Lexicographic.{nat_list_cmp_total}
@@ -8,10 +8,10 @@ use Rattle.std.specs.List.Sorted.{IsSorted, IsSearchInRange, IsBinarySearchResul
 use Rattle.std.specs.Ordering.{eq_by_cmp, nat_cmp, ordering_then}
 use Rattle.std.proofs.lemmas.Bool.{cases_lt}
 use Rattle.std.proofs.lemmas.Cmp.{tied_back, tied_itself}
-use Rattle.std.proofs.lemmas.List.{get_or-map, length-map, map-append, take_more}
+use Rattle.std.proofs.lemmas.List.{get_or-map, get_or-take, length-map, length-take, map-append, take_more}
 use Rattle.std.proofs.lemmas.List.Elements.{All-from_get_or}
 use Rattle.std.proofs.lemmas.List.Folds.{list_any_at, list_any_none}
-use Rattle.std.proofs.lemmas.List.Sorted.{searchable_from_sorted}
+use Rattle.std.proofs.lemmas.List.Sorted.{ranks_by, searchable_from_sorted, sorted_far}
 use Rattle.std.proofs.lemmas.Map.Keys.{Less-from_sorted}
 use Rattle.std.proofs.lemmas.Option.{slice_get-get_or, slice_get-map, slice_get_past}
 use Rattle.sorted_sets.specs.Rising.{IsRising, has}
@@ -19,7 +19,7 @@ use Rattle.sorted_sets.proofs.{Bools.equal, Bools.or_false, Bools.then_first, Bo
 use Rattle.rdf_term.specs.Order.{bytes_cmp}
 use Rattle.page_parts.specs.declared.subjects.SubjectText.{SubjectText}
 use Rattle.page_parts.specs.declared.row.Row.{Row}
-use Rattle.page_parts.specs.Row.{row_cmp, subject_texts}
+use Rattle.page_parts.specs.Row.{IsFirst, row_cmp, subject_cmp, subject_texts}
 use Rattle.page_parts.proofs.Ranking.{some_same}
 
 module _ {K : Type 0} {R : K → K → Ordering} (o : IsTotalOrder R) where
@@ -54,6 +54,26 @@ module _ (subjects : List SubjectText) (place : ℕ) (d : SubjectText) (within :
 
   pub text_there : (text : List ℕ) → slice_get (subject_texts subjects) place ≡ Some text → text_of (get_or subjects place d) ≡ text
   text_there text e = some_same (text_of (get_or subjects place d)) text (sym at_place ∙ e)
+
+-- the first place where a text stands is the first of those that aren't below it
+pub first_found : (subjects : List SubjectText) (place : ℕ) (d : SubjectText) (text : List ℕ) → IsSorted subject_cmp subjects → place < length subjects → (get_or subjects place d).text.now ≡ text
+    → has bytes_cmp text (subject_texts (take place subjects)) ≡ false → IsFirst (subject_texts subjects) place text
+first_found subjects place d text sorted within same none = record {
+  there = at_place subjects place d within ∙ ap Some same;
+  below = λ k other l e.
+      let k_within : k < length subjects = omega (arith, l, within) in
+      let is : (get_or subjects k d).text.now ≡ other = text_there subjects k d k_within other e in
+      let far = sorted_far (λ a b. is_lt (subject_cmp a b)) (ranks_by nat_list_cmp_total (λ (s : SubjectText). s.text.now)) subjects sorted k place d (omega (arith, l)) within in
+      by k other l is ((λ i. is_lt (bytes_cmp (sym same i) (sym is i))) ∙ far) (bytes_cmp other text) refl;
+}
+  where
+    by : (k : ℕ) (other : List ℕ) → k < place → (get_or subjects k d).text.now ≡ other → is_lt (bytes_cmp text other) ≡ false → (r : Ordering) → bytes_cmp other text ≡ r → bytes_cmp other text ≡ Less
+    by k other l is far Less e = e
+    by k other l is far Equal e =
+        let there : get_or (take place subjects) k d ≡ get_or subjects k d = get_or-take place subjects k d l in
+        absurd (true≢false (sym (text_among (take place subjects) k d (omega (arith, l, within, length-take place subjects)) text
+        (ap (λ (s : SubjectText). s.text.now) there ∙ is ∙ slice_cmp-IsAntisymmetric nat_cmp-IsAntisymmetric other text e)) ∙ none))
+    by k other l is far Greater e = absurd (true≢false (sym (ap is_lt (turned nat_list_cmp_total other text Greater e)) ∙ far))
 
 -- no text stands behind all of them
 pub none_behind : (subjects : List SubjectText) (place : ℕ) (text : List ℕ) → length subjects ≤ place → slice_get (subject_texts subjects) place ≡ Some text → ⊥

@@ -94,7 +94,7 @@ fn is_one_of<'a>(row: &Row<'a>, rows: &[Row<'a>]) -> bool
 }
 
 // Whether two rows may be the same, by their ranks and what tells their objects apart soon.
-fn may_be_row(one: &Row<'_>, other: &Row<'_>) -> bool
+pub(crate) fn may_be_row(one: &Row<'_>, other: &Row<'_>) -> bool
     ensures { eq_by_cmp row_cmp one.now other.now ≡ true → result ≡ true }
 {
     one.rank == other.rank && may_be(one.texts.object, other.texts.object)

@@ -5,6 +5,7 @@ ghost use Rattle.std.specs.Ordering.{eq_by_cmp};
 ghost use Rattle.rdf_term.specs.declared.triple.Triple.{Triple as TheTriple};
 ghost use Rattle.page_parts.specs.{InOne.has_more, Marked.is_marked, Row.row_cmp, Row.row_has_more};
 
+use crate::marking::may_be_row;
 use crate::marks::Marks;
 use crate::row::Row;
 use crate::rows::listed_rows;
@@ -65,7 +66,7 @@ fn count_of<'a>(row: &Row<'a>, rows: &[Row<'a>]) -> usize
 {
     let mut count = 0;
     for other in rows {
-        if *row == *other {
+        if may_be_row(row, other) && *row == *other {
             count += 1;
         }
     }

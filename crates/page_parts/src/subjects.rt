@@ -87,8 +87,8 @@ pub(crate) fn find_subject(subjects: &[SubjectText<'_>], text: &[u8]) -> Option<
     ensures first { IfSome result (IsFirstOf (subject_texts subjects.now) text.now) }
     ensures none { result ≡ None → has bytes_cmp text.now (subject_texts subjects.now) ≡ false }
 {
-    if subjects.len() <= FEW && !has_text(subjects, text) {
-        return None;
+    if subjects.len() <= FEW {
+        return first_among(subjects, text);
     }
     let place = place_of(subjects, text);
     if is_at(subjects, place, text) {
@@ -98,16 +98,19 @@ pub(crate) fn find_subject(subjects: &[SubjectText<'_>], text: &[u8]) -> Option<
     }
 }
 
-// Whether a text is among subjects. It is compared with those that it may be.
-fn has_text(subjects: &[SubjectText<'_>], text: &[u8]) -> bool
-    ensures { result ≡ has bytes_cmp text.now (subject_texts subjects.now) }
+// The first place of a text among subjects in order, if it is there. It is compared with those that it may be.
+fn first_among(subjects: &[SubjectText<'_>], text: &[u8]) -> Option<usize>
+    requires sorted { IsSorted subject_cmp subjects.now }
+    ensures first { IfSome result (IsFirstOf (subject_texts subjects.now) text.now) }
+    ensures none { result ≡ None → has bytes_cmp text.now (subject_texts subjects.now) ≡ false }
 {
-    for subject in subjects {
-        if may_be(subject.text, text) && subject.text == text {
-            return true;
+    for index in 0..subjects.len() {
+        let subject = subjects[index].text;
+        if may_be(subject, text) && subject == text {
+            return Some(index);
         }
     }
-    false
+    None
 }
 
 // Whether two texts may be the same, by their lengths and a byte near their ends: the subjects of a page mostly begin alike.
@@ -150,5 +153,8 @@ pub(crate) fn rank_of(subjects: &[SubjectText<'_>], text: &[u8]) -> usize
     requires there { has bytes_cmp text.now (subject_texts subjects.now) ≡ true }
     ensures { IsFirst (subject_texts subjects.now) result text.now }
 {
-    place_of(subjects, text)
+    match find_subject(subjects, text) {
+        Some(place) => place,
+        None => unreachable!(),
+    }
 }
